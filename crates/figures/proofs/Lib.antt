@@ -1,0 +1,4 @@
+mod Elements
+mod Sizes
+mod Raising
+mod Refusing

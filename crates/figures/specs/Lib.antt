@@ -1,0 +1,3 @@
+pub mod Headings
+pub mod Accounts
+pub mod Strikes

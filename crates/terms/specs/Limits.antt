@@ -1,0 +1,50 @@
+-- The limits of the rules, by name.
+use mathlib.Core.Bool.{Bool, _&&_}
+use Prim.Native.Nat.{ℕ}
+use lib.Dec.{leb}
+
+abbrev pub last-member : ℕ
+last-member = 64
+
+abbrev pub last-segment : ℕ
+last-segment = 5
+
+abbrev pub last-day : ℕ
+last-day = 1000000
+
+abbrev pub most-scenarios : ℕ
+most-scenarios = 64
+
+abbrev pub most-assets : ℕ
+most-assets = 64
+
+abbrev pub most-positions : ℕ
+most-positions = 64
+
+-- a price change, up or down, in pesos
+abbrev pub change-limit : ℕ
+change-limit = 1000000
+
+-- a position's quantity, long or short
+abbrev pub quantity-limit : ℕ
+quantity-limit = 10000000
+
+-- a required or posted margin, in pesos
+abbrev pub margin-limit : ℕ
+margin-limit = 1000000000000
+
+-- a column of a tally, in pesos
+abbrev pub column-limit : ℕ
+column-limit = 1000000000000
+
+-- a figure, in mils: the column limit over one mil
+abbrev pub figure-limit : ℕ
+figure-limit = 1000000000
+
+-- one mil in pesos
+abbrev pub mil : ℕ
+mil = 1000
+
+-- a number from low to high, both of them good
+abbrev pub within : ℕ → ℕ → ℕ → Bool
+within low high x = leb low x && leb x high

@@ -1,0 +1,56 @@
+ghost use Rattle.terms.specs.Refusing.{numberOf};
+ghost use mathlib.Core.Path.{_≡_};
+
+/// Why a call was turned away.
+#[derive(Clone, Copy, PartialEq, Eq, Debug)]
+pub enum Refusal {
+    /// The member is none of 1 to 64.
+    Member,
+    /// The segment is none of 1 to 5.
+    Segment,
+    /// The day is none of 1 to 1,000,000.
+    Day,
+    /// The scenario count is none of 1 to 64.
+    Scenarios,
+    /// The sheet has no whole number of assets from 1 to 64, or a change is out of range.
+    Sheet,
+    /// Too many positions, an unknown asset, or a quantity that is 0 or out of range.
+    Positions,
+    /// A margin is above its limit.
+    Margin,
+    /// A column would pass its limit.
+    Column,
+    /// A list that the caller brought has the wrong length.
+    Lengths,
+    /// A line has another key than the one expected, or does not end.
+    Key,
+    /// A bad number, kind or form, or a wrong number of fields.
+    Field,
+    /// A line of changes that are not one to a scenario, or an end that counts wrongly.
+    Count,
+    /// The file is too long, or goes on after its end.
+    TooLong,
+}
+
+impl Refusal {
+    /// The number that reports print.
+    pub fn number(self) -> u8
+        ensures { λ r. ⌜ r ≡ numberOf self ⌝ }
+    {
+        match self {
+            Refusal::Member => 1,
+            Refusal::Segment => 2,
+            Refusal::Day => 3,
+            Refusal::Scenarios => 4,
+            Refusal::Sheet => 5,
+            Refusal::Positions => 6,
+            Refusal::Margin => 7,
+            Refusal::Column => 8,
+            Refusal::Lengths => 27,
+            Refusal::Key => 31,
+            Refusal::Field => 32,
+            Refusal::Count => 33,
+            Refusal::TooLong => 34,
+        }
+    }
+}
