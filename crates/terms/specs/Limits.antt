@@ -41,6 +41,14 @@ column-limit = 1000000000000
 abbrev pub figure-limit : ℕ
 figure-limit = 1000000000
 
+-- the changes of the largest sheet
+abbrev pub most-changes : ℕ
+most-changes = 4096
+
+-- the bytes of a day file
+abbrev pub most-file-bytes : ℕ
+most-file-bytes = 60000
+
 -- one mil in pesos
 abbrev pub mil : ℕ
 mil = 1000

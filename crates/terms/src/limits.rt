@@ -32,3 +32,9 @@ pub const COLUMN_LIMIT: u64 = 1_000_000_000_000;
 
 /// One mil in pesos: the book counts in mils.
 pub const MIL: u64 = 1_000;
+
+/// The bytes of a day file.
+pub const MOST_FILE_BYTES: usize = 60_000;
+
+/// The changes of the largest sheet.
+pub const MOST_CHANGES: usize = 4_096;

@@ -1,0 +1,15 @@
+ghost use Prim.Native.Nat.{_≤_};
+ghost use lib.ListN.{length};
+ghost use mathlib.Core.Path.{_≡_};
+
+/// Room for the longest report.
+pub const REPORT_BYTES: usize = 128;
+
+/// The bytes that are printed of an answer.
+#[derive(Clone, Copy)]
+pub struct Report {
+    pub(crate) bytes: [u8; REPORT_BYTES],
+    pub(crate) len: usize,
+    ghost long: { length bytes ≡ 128 },
+    ghost within: { len ≤ 128 },
+}

@@ -1,0 +1,5 @@
+use Rattle.daytext.proofs.Numerals.{stand}
+use Rattle.daytext.proofs.numbers.numbers_stand.Needs as need
+
+pub returns : need.returns
+returns c = stand
