@@ -1,1 +1,11 @@
-mod Writing
+mod Adding
+mod Begins
+mod Bodies
+mod ChangeRows
+mod Files
+mod Filling
+mod LineFields
+mod Outcomes
+mod SheetRows
+mod Steps
+mod Turns

@@ -1,2 +1,4 @@
-pub mod Faults
-pub mod Printing
+pub mod Days
+pub mod Reading
+pub mod Seen
+pub mod Outcome

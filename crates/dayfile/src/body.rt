@@ -1,14 +1,21 @@
 ghost use Prim.Native.Nat.{_+_, _<_, _^_, _≤_};
+ghost use Rattle.dayfile.specs.Days.{taking};
+ghost use Rattle.dayfile.specs.Reading.{run};
+ghost use Rattle.dayfile.specs.Seen.{BodyRead, columnsBy, handOf, refusedBy};
+ghost use Rattle.daytext.specs.Text.{parted};
+ghost use Rattle.figures.specs.Accounts.{Added};
 ghost use Rattle.std.specs.Vec.{made};
+ghost use Rattle.std.specs.declared.option.Option.the-variants.{None};
 ghost use Rattle.terms.specs.Limits.{most-positions};
-ghost use lib.ListN.{length};
+ghost use lib.ListN.{length, take};
+ghost use mathlib.Core.List.{[]};
 ghost use mathlib.Core.Path.{_≡_};
 // The lines after the sheet: accounts, each with its positions, and the end.
-use crate::faults::Fault;
 use crate::fields::account;
 use crate::fields::position;
 use crate::keys::Row;
 use crate::keys::row_of;
+use dayreport::Fault;
 use daytext::plain;
 use daytext::split;
 use figures::Account;
@@ -24,13 +31,16 @@ pub(crate) struct Open {
     pub(crate) account: Account,
 }
 
-// Adds the account in hand, if there is one.
-fn settle(
+// Adds the account in hand, if there is one, with these positions.
+fn close(
     tally: &mut Tally,
     sheet: &[i32],
     hand: Option<Open>,
     positions: &[Position],
-) -> Option<Fault> {
+) -> Option<Fault>
+    ensures fault { λ r. ⌜ r ≡ refusedBy (taking (now (tally .entry) .scenarios) (now (sheet .entry))) (now (tally .entry) .columns) (handOf hand (now (positions .entry))) ⌝ }
+    ensures after { λ r. ⌜ Added (now (tally .entry)) (now (tally .exit)) (columnsBy (taking (now (tally .entry) .scenarios) (now (sheet .entry))) (now (tally .entry) .columns) (handOf hand (now (positions .entry)))) ⌝ }
+{
     match hand {
         None => None,
         Some(open) => match tally.add(sheet, open.account, positions) {
@@ -38,6 +48,21 @@ fn settle(
             Err(refusal) => Some(Fault::Tally(refusal, open.line)),
         },
     }
+}
+
+// Adds the account in hand, if there is one, with the first `count` positions.
+fn settle(
+    tally: &mut Tally,
+    sheet: &[i32],
+    hand: Option<Open>,
+    held: &[Position],
+    count: usize,
+) -> Option<Fault>
+    requires { ⌜ count ≤ length (now held) ⌝ }
+    ensures fault { λ r. ⌜ r ≡ refusedBy (taking (now (tally .entry) .scenarios) (now (sheet .entry))) (now (tally .entry) .columns) (handOf hand (take count (now (held .entry)))) ⌝ }
+    ensures after { λ r. ⌜ Added (now (tally .entry)) (now (tally .exit)) (columnsBy (taking (now (tally .entry) .scenarios) (now (sheet .entry))) (now (tally .entry) .columns) (handOf hand (take count (now (held .entry))))) ⌝ }
+{
+    close(tally, sheet, hand, &held[0..count])
 }
 
 // Reads the lines after the sheet, the first of which has the number `first`, into the tally. Answers how many positions
@@ -51,7 +76,9 @@ pub(crate) fn accounts(
 ) -> Result<usize, Fault>
     requires long { ⌜ length (now held) ≡ most-positions ⌝ }
     requires few { ⌜ first + length (now bytes) < 2 ^ 32 ⌝ }
-    ensures { λ r. ⌜ made r (λ k. k ≤ most-positions) ⌝ }
+    ensures is { λ r. ⌜ BodyRead (taking (now (tally .entry) .scenarios) (now (sheet .entry))) (now (tally .entry) .columns) (run (taking (now (tally .entry) .scenarios) (now (sheet .entry))) [] (now (tally .entry) .columns) None first (parted 10 (now (bytes .entry)))) r (now (held .exit)) (now (tally .exit) .columns) ⌝ }
+    ensures kept { λ r. ⌜ (now (tally .exit) .closing ≡ now (tally .entry) .closing) × (now (tally .exit) .scenarios ≡ now (tally .entry) .scenarios) ⌝ }
+    ensures few { λ r. ⌜ made r (λ k. k ≤ most-positions) ⌝ }
 {
     let mut rest = bytes;
     let mut n = first;
@@ -63,7 +90,7 @@ pub(crate) fn accounts(
             if let Row::Position(_) = row_of(rest) {
                 return Err(Fault::Line(Refusal::Key, n));
             }
-            if let Some(fault) = settle(tally, sheet, hand, &held[0..count]) {
+            if let Some(fault) = settle(tally, sheet, hand, held, count) {
                 return Err(fault);
             }
             return Err(Fault::Line(Refusal::Key, n));
@@ -83,7 +110,7 @@ pub(crate) fn accounts(
                 count += 1;
             }
             Row::Account(text) => {
-                if let Some(fault) = settle(tally, sheet, hand, &held[0..count]) {
+                if let Some(fault) = settle(tally, sheet, hand, held, count) {
                     return Err(fault);
                 }
                 let Some(account) = account(text) else {
@@ -94,7 +121,7 @@ pub(crate) fn accounts(
                 count = 0;
             }
             Row::End(text) => {
-                if let Some(fault) = settle(tally, sheet, hand, &held[0..count]) {
+                if let Some(fault) = settle(tally, sheet, hand, held, count) {
                     return Err(fault);
                 }
                 let Some(k) = plain(text) else {
@@ -109,7 +136,7 @@ pub(crate) fn accounts(
                 return Ok(count);
             }
             Row::Other => {
-                if let Some(fault) = settle(tally, sheet, hand, &held[0..count]) {
+                if let Some(fault) = settle(tally, sheet, hand, held, count) {
                     return Err(fault);
                 }
                 return Err(Fault::Line(Refusal::Key, n));

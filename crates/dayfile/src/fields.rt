@@ -1,8 +1,14 @@
-ghost use Rattle.std.specs.Vec.{made};
 ghost use Prim.Native.Nat.{_<_};
+ghost use Rattle.dayfile.specs.Reading.{accountFields, kindOf, numbered, positionFields};
+ghost use Rattle.dayfile.specs.Seen.{KindIs, keyText, seenAs};
+ghost use Rattle.daytext.specs.Text.{parted};
+ghost use Rattle.std.specs.Vec.{made};
 ghost use lib.ListN.{length};
+ghost use mathlib.Core.Path.{_≡_};
 // The fields of a line.
-use crate::faults::Fault;
+use crate::keys::Key;
+use crate::keys::after_key;
+use dayreport::Fault;
 use daytext::plain;
 use daytext::signed;
 use daytext::split;
@@ -11,29 +17,27 @@ use figures::Kind;
 use figures::Position;
 use terms::Refusal;
 
-// Line n without its byte 10, and what follows it. A line that does not end is refused.
-pub(crate) fn line<'a>(bytes: &'a [u8], n: u32) -> Result<(&'a [u8], &'a [u8]), Fault>
-    ensures { λ r. ⌜ made r (λ p. length (now (p .1)) < length (now (bytes .entry))) ⌝ }
+// The number of line n, which has this key, and what follows the line.
+pub(crate) fn number<'a>(bytes: &'a [u8], key: Key, n: u32) -> Result<(u64, &'a [u8]), Fault>
+    ensures is { λ r. ⌜ seenAs r ≡ numbered (keyText key) n (parted 10 (now (bytes .entry))) ⌝ }
+    ensures less { λ r. ⌜ made r (λ p. length (now (p .1)) < length (now (bytes .entry))) ⌝ }
 {
-    match split(bytes, b'\n') {
-        Some(parts) => Ok(parts),
-        None => Err(Fault::Line(Refusal::Key, n)),
-    }
-}
-
-// The number of line n, from what follows its key.
-pub(crate) fn number(text: Option<&[u8]>, n: u32) -> Result<u64, Fault> {
-    let Some(text) = text else {
+    let Some((line, rest)) = split(bytes, b'\n') else {
+        return Err(Fault::Line(Refusal::Key, n));
+    };
+    let Some(text) = after_key(line, key) else {
         return Err(Fault::Line(Refusal::Key, n));
     };
     let Some(k) = plain(text) else {
         return Err(Fault::Line(Refusal::Field, n));
     };
-    Ok(k)
+    Ok((k, rest))
 }
 
 // Asset and quantity.
-pub(crate) fn position(text: &[u8]) -> Option<Position> {
+pub(crate) fn position(text: &[u8]) -> Option<Position>
+    ensures { λ r. ⌜ r ≡ positionFields (parted 44 (now (text .entry))) ⌝ }
+{
     let Some((first, rest)) = split(text, b',') else {
         return None;
     };
@@ -49,7 +53,9 @@ pub(crate) fn position(text: &[u8]) -> Option<Position> {
     Some(Position { asset, quantity })
 }
 
-fn kind(text: &[u8]) -> Option<Kind> {
+fn kind_in(text: &[u8]) -> Option<Kind>
+    ensures { λ r. ⌜ KindIs (now (text .entry)) r ⌝ }
+{
     match text {
         [b'o', b'w', b'n'] => Some(Kind::Own),
         [b'c', b'l', b'i'] => Some(Kind::Client),
@@ -57,8 +63,16 @@ fn kind(text: &[u8]) -> Option<Kind> {
     }
 }
 
+fn kind(text: &[u8]) -> Option<Kind>
+    ensures { λ r. ⌜ r ≡ kindOf (now (text .entry)) ⌝ }
+{
+    kind_in(text)
+}
+
 // Kind, required and posted margin.
-pub(crate) fn account(text: &[u8]) -> Option<Account> {
+pub(crate) fn account(text: &[u8]) -> Option<Account>
+    ensures { λ r. ⌜ r ≡ accountFields (parted 44 (now (text .entry))) ⌝ }
+{
     let Some((first, rest)) = split(text, b',') else {
         return None;
     };

@@ -1,13 +1,16 @@
-ghost use Rattle.std.specs.Vec.{made};
 ghost use Prim.Native.Nat.{_<_, _≤_};
-ghost use Rattle.terms.specs.Limits.{most-scenarios};
+ghost use Rattle.dayfile.specs.Reading.{headed, linesRead};
+ghost use Rattle.dayfile.specs.Seen.{judged, seenAs};
+ghost use Rattle.daytext.specs.Text.{parted};
+ghost use Rattle.figures.specs.Headings.{Headed, headingTests};
+ghost use Rattle.std.specs.Vec.{made};
+ghost use Rattle.terms.specs.Refusing.{firstRefusal};
 ghost use lib.ListN.{length};
 ghost use mathlib.Core.Path.{_≡_};
 // Lines 1 to 5, and the heading that they make.
-use crate::faults::Fault;
-use crate::fields::line;
 use crate::fields::number;
-use crate::keys;
+use crate::keys::Key;
+use dayreport::Fault;
 use figures::Heading;
 use terms::Refusal;
 
@@ -25,20 +28,17 @@ const LAST_LINE: u32 = 5;
 
 // Reads lines 1 to 5, and what follows them.
 pub(crate) fn first_lines<'a>(bytes: &'a [u8]) -> Result<(Head, &'a [u8]), Fault>
-    ensures { λ r. ⌜ made r (λ p. length (now (p .1)) < length (now (bytes .entry))) ⌝ }
+    ensures is { λ r. ⌜ seenAs r ≡ linesRead (parted 10 (now (bytes .entry))) ⌝ }
+    ensures less { λ r. ⌜ made r (λ p. length (now (p .1)) < length (now (bytes .entry))) ⌝ }
 {
-    let (first, rest) = line(bytes, 1)?;
-    if number(keys::form(first), 1)? != 1 {
+    let (form, rest) = number(bytes, Key::Form, 1)?;
+    if form != 1 {
         return Err(Fault::Line(Refusal::Field, 1));
     }
-    let (second, rest) = line(rest, 2)?;
-    let member = number(keys::member(second), 2)?;
-    let (third, rest) = line(rest, 3)?;
-    let segment = number(keys::segment(third), 3)?;
-    let (fourth, rest) = line(rest, 4)?;
-    let day = number(keys::day(fourth), 4)?;
-    let (fifth, rest) = line(rest, LAST_LINE)?;
-    let scenarios = number(keys::scenarios(fifth), LAST_LINE)?;
+    let (member, rest) = number(rest, Key::Member, 2)?;
+    let (segment, rest) = number(rest, Key::Segment, 3)?;
+    let (day, rest) = number(rest, Key::Day, 4)?;
+    let (scenarios, rest) = number(rest, Key::Scenarios, LAST_LINE)?;
     Ok((
         Head {
             member,
@@ -52,7 +52,8 @@ pub(crate) fn first_lines<'a>(bytes: &'a [u8]) -> Result<(Head, &'a [u8]), Fault
 
 // The heading that the first lines make. Its refusal is told at the last of them.
 pub(crate) fn checked(head: Head) -> Result<Heading, Fault>
-    ensures { λ r. ⌜ made r (λ h. (h .scenarios ≡ head .scenarios) × (1 ≤ head .scenarios) × (head .scenarios ≤ most-scenarios)) ⌝ }
+    ensures fault { λ r. ⌜ judged r ≡ headed (firstRefusal (headingTests (head .member) (head .segment) (head .day) (head .scenarios))) ⌝ }
+    ensures is { λ r. ⌜ made r (λ h. Headed h (head .member) (head .segment) (head .day) (head .scenarios)) ⌝ }
 {
     match Heading::check(head.member, head.segment, head.day, head.scenarios) {
         Ok(heading) => Ok(heading),

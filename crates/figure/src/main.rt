@@ -1,6 +1,6 @@
 // Reads a day file from standard input and prints its figure or its first fault.
 use dayfile::read;
-use dayfile::report;
+use dayreport::report;
 use figures::Position;
 use std::io;
 use std::io::Read;

@@ -11,7 +11,9 @@ use Rattle.std.specs.Iters.{counting}
 use Rattle.std.specs.declared.result.Result.{Result}
 use Rattle.std.specs.declared.result.Result.the-variants.{Ok, Err}
 use Rattle.terms.specs.Limits.{within, most-assets, most-positions, change-limit, quantity-limit, margin-limit, column-limit}
-use Rattle.terms.specs.Refusing.{Tests}
+use Rattle.std.specs.declared.option.Option.{Option}
+use Rattle.std.specs.declared.option.Option.the-variants.{Some, None}
+use Rattle.terms.specs.Refusing.{Tests, firstRefusal}
 use Rattle.terms.specs.declared.refusals.Refusal.{Refusal}
 use Rattle.terms.specs.declared.refusals.Refusal.the-variants.{Sheet, Positions, Margin, Column}
 use Rattle.figures.specs.declared.kinds.Kind.{Kind}
@@ -99,6 +101,14 @@ addTests scenarios columns sheet a ps =
     ∷ (marginsOk a, Margin)
     ∷ (every columnOk (raised scenarios sheet (offsetOf a) ps columns), Column)
     ∷ []
+
+-- the new columns, or the first refusal
+unfoldable pub adding : ℕ → List ℤ → List ℕ → Account → List Position → Result (List ℕ) Refusal
+adding scenarios sheet columns a ps = answered (firstRefusal (addTests scenarios columns sheet a ps))
+  where
+    answered : Option Refusal → Result (List ℕ) Refusal
+    answered None = Ok (raised scenarios sheet (offsetOf a) ps columns)
+    answered (Some r) = Err r
 
 -- the columns afterwards: raised, or as before where the account was refused
 abbrev pub columnsAfter : {X : Type 0} → Result X Refusal → ℕ → List ℕ → List ℤ → Account → List Position → List ℕ

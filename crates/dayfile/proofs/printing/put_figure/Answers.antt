@@ -1,9 +1,0 @@
-use native.Mathlib.Omega.{arith}
-use Rattle.dayfile.proofs.Writing.{wrote-more}
-use Rattle.dayfile.proofs.printing.put_figure.Needs as need
-
-pub returns : need.returns
-returns c = record {
-  bytes = wrote-more (c .put-line-member .ensures .wrote) (wrote-more (c .put-line-segment .ensures .wrote) (wrote-more (c .put-line-day .ensures .wrote) (c .put-line .ensures .wrote))) .bytes;
-  within = omega arith;
-}
