@@ -19,24 +19,12 @@ use Rattle.figures.specs.declared.kinds.Kind.the-variants.{Own, Client}
 use Rattle.figures.specs.declared.kinds.Account.{Account}
 use Rattle.figures.specs.declared.kinds.Position.{Position}
 use Rattle.figures.specs.Accounts.{every, changeOk}
-use Rattle.daytext.specs.Text.{plainOf, signedOf, decimal, signedText, Short, size, Parts, more, parted, glued, same}
+use Rattle.daytext.specs.Text.{plainOf, signedOf, decimal, signedText, Short, Parts, more, parted, glued, same}
 use Rattle.daytext.proofs.Numerals.{none-some}
 use Rattle.daytext.proofs.Texts.{plain-made, plain-back, signed-made, signed-back, parted-made, parted-back, same-back, decimal-without, signed-without, Without, ended}
 use Rattle.dayfile.specs.Days.{kindText, changeText, changeLine, sheetLines, InRange, Lawful, Numbered}
 use Rattle.dayfile.specs.Reading.{next, also, numbers, changes, rowsRead, assetsRead, sheetRead, positionFields, kindOf, accountFields}
 use Rattle.dayfile.proofs.Steps.{ok-same, some-same, then-back, given-back, want-back, then-made, given-made, want-made, some-back, some-made, next-back, then-cases, line-cases, want-cases, line-then, within-back, within-made}
-
--- the size of a number
-size-is : (z : ℤ) → size z ≡ natAbs z
-size-is (pos n) = refl
-size-is (negsuc n) = refl
-
--- a signed number, both ways
-pub integer-back : (t : List ℕ) (z : ℤ) → signedOf t ≡ Some z → (t ≡ signedText z) × Short (natAbs z)
-integer-back t z h = let r = signed-back t z h in (r .0, subst Short (size-is z) (r .1))
-
-pub integer-made : (z : ℤ) → Short (natAbs z) → signedOf (signedText z) ≡ Some z
-integer-made z h = signed-made z (subst Short (sym (size-is z)) h)
 
 -- Numbers between commas
 also-parts : {A : Type 0} (o : Option A) (r : Option (List A)) (zs : List A) → also o r ≡ Some zs → (z : A) × (ws : List A) × (o ≡ Some z) × (r ≡ Some ws) × ((z ∷ ws) ≡ zs)
@@ -52,13 +40,13 @@ pub numbers-back : (fs : List (List ℕ)) (zs : List ℤ) → numbers fs ≡ Som
 numbers-back [] zs h = subst (λ x. (_≡_ {A = List (List ℕ)} [] (map signedText x)) × Shorts x) (some-same h) (refl, tt)
 numbers-back (f ∷ fs) zs h =
     let a = also-parts (signedOf f) (numbers fs) zs h in
-    let s = integer-back f (a .0) (a .2) in
+    let s = signed-back f (a .0) (a .2) in
     let r = numbers-back fs (a .1) (a .3) in
     subst (λ x. ((f ∷ fs) ≡ map signedText x) × Shorts x) (a .4) ((λ i. s .0 i ∷ r .0 i), (s .1, r .1))
 
 pub numbers-made : (zs : List ℤ) → Shorts zs → numbers (map signedText zs) ≡ Some zs
 numbers-made [] h = refl
-numbers-made (z ∷ zs) h = (λ i. also (integer-made z (h .0) i) (numbers-made zs (h .1) i))
+numbers-made (z ∷ zs) h = (λ i. also (signed-made z (h .0) i) (numbers-made zs (h .1) i))
 
 -- the text of fields that write numbers
 text-from : (p : Parts) (zs : List ℤ) → (p .0 ∷ p .1) ≡ map signedText zs → glued 44 p ≡ changeText zs
@@ -154,7 +142,7 @@ position-fields-back (f, g ∷ []) q h =
     let a = some-back (plainOf f) _ _ h in
     let b = some-back (signedOf g) _ _ (a .2) in
     let x = plain-back f (a .0) (a .1) in
-    let y = integer-back g (b .0) (b .1) in
+    let y = signed-back g (b .0) (b .1) in
     subst (λ (r : Position). (_≡_ {A = Parts} (f, g ∷ []) (decimal (r .asset), signedText (r .quantity) ∷ [])) × Numbered r) (some-same (b .2))
     ((λ i. (x .0 i, y .0 i ∷ [])), record { asset = x .1; quantity = y .1 })
 position-fields-back (f, g ∷ k ∷ fs) q h = none-some h
@@ -167,7 +155,7 @@ position-back t q h =
 pub position-made : (q : Position) → Numbered q → positionFields (parted 44 (glued 44 (decimal (q .asset), signedText (q .quantity) ∷ []))) ≡ Some q
 position-made q h =
     ap positionFields (parted-made 44 (decimal (q .asset)) (signedText (q .quantity) ∷ []) (decimal-without 44 (q .asset) (omega arith)) (signed-without 44 (q .quantity) (omega arith), tt))
-    ∙ some-made _ _ (q .asset) _ (plain-made (q .asset) (h .asset)) (some-made _ _ (q .quantity) _ (integer-made (q .quantity) (h .quantity)) refl)
+    ∙ some-made _ _ (q .asset) _ (plain-made (q .asset) (h .asset)) (some-made _ _ (q .quantity) _ (signed-made (q .quantity) (h .quantity)) refl)
 
 -- Accounts
 pub kind-back : (t : List ℕ) (k : Kind) → kindOf t ≡ Some k → t ≡ kindText k

@@ -1,3 +1,5 @@
+// The lines after the sheet: accounts, each with its positions, and the end.
+
 ghost use Prim.Native.Nat.{_+_, _<_, _^_, _≤_};
 ghost use Rattle.dayfile.specs.Days.{taking};
 ghost use Rattle.dayfile.specs.Reading.{run};
@@ -10,7 +12,6 @@ ghost use Rattle.terms.specs.Limits.{most-positions};
 ghost use lib.ListN.{length, take};
 ghost use mathlib.Core.List.{[]};
 ghost use mathlib.Core.Path.{_≡_};
-// The lines after the sheet: accounts, each with its positions, and the end.
 use crate::fields::account;
 use crate::fields::position;
 use crate::keys::Row;

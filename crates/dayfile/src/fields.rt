@@ -1,3 +1,5 @@
+// The fields of a line.
+
 ghost use Prim.Native.Nat.{_<_};
 ghost use Rattle.dayfile.specs.Reading.{accountFields, kindOf, numbered, positionFields};
 ghost use Rattle.dayfile.specs.Seen.{KindIs, keyText, seenAs};
@@ -5,7 +7,6 @@ ghost use Rattle.daytext.specs.Text.{parted};
 ghost use Rattle.std.specs.Vec.{made};
 ghost use lib.ListN.{length};
 ghost use mathlib.Core.Path.{_≡_};
-// The fields of a line.
 use crate::keys::Key;
 use crate::keys::after_key;
 use dayreport::Fault;

@@ -1,3 +1,5 @@
+// Lines 1 to 5, and the heading that they make.
+
 ghost use Prim.Native.Nat.{_<_, _≤_};
 ghost use Rattle.dayfile.specs.Reading.{headed, linesRead};
 ghost use Rattle.dayfile.specs.Seen.{judged, seenAs};
@@ -7,7 +9,6 @@ ghost use Rattle.std.specs.Vec.{made};
 ghost use Rattle.terms.specs.Refusing.{firstRefusal};
 ghost use lib.ListN.{length};
 ghost use mathlib.Core.Path.{_≡_};
-// Lines 1 to 5, and the heading that they make.
 use crate::fields::number;
 use crate::keys::Key;
 use dayreport::Fault;

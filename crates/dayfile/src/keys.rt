@@ -1,8 +1,9 @@
+// The keys that lines begin with, and what follows them.
+
 ghost use Rattle.dayfile.specs.Seen.{KeyIs, RowIs, keyText};
 ghost use Rattle.daytext.specs.Text.{after, seen};
 ghost use lib.Chars.{codes};
 ghost use mathlib.Core.Path.{_≡_};
-// The keys that lines begin with, and what follows them.
 
 // The keys of the heading's and the sheet's lines.
 #[derive(Clone, Copy)]

@@ -1,8 +1,9 @@
+// The caller's lists.
+
 ghost use Prim.Native.Nat.{_-_, _≤_};
 ghost use lib.ListN.{length, replicate, take};
 ghost use mathlib.Core.List.{_++_};
 ghost use mathlib.Core.Path.{_≡_};
-// The caller's lists.
 
 // Writes the value over every element from the place `from` on.
 pub(crate) fn fill<T: Copy>(list: &mut [T], from: usize, value: T)

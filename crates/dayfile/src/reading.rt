@@ -1,3 +1,5 @@
+// The whole file, into the caller's lists.
+
 ghost use Rattle.dayfile.specs.Outcome.{DayRead, Exactly, Outcome, answerOf, lengthsOk};
 ghost use Rattle.dayfile.specs.Reading.{reading};
 ghost use Rattle.terms.specs.Limits.{most-changes, most-positions};
@@ -5,7 +7,6 @@ ghost use lib.IntN.{pos};
 ghost use lib.ListN.{length, replicate};
 ghost use mathlib.Core.Bool.{true};
 ghost use mathlib.Core.Path.{_≡_};
-// The whole file, into the caller's lists.
 use crate::body::accounts;
 use crate::head::checked;
 use crate::head::first_lines;

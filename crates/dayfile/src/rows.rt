@@ -1,3 +1,5 @@
+// One asset's changes.
+
 ghost use Prim.Native.Nat.{_+_, _≤_};
 ghost use Rattle.dayfile.specs.Reading.{changes};
 ghost use Rattle.dayfile.specs.Seen.{RowRead, inRange, verdictOf};
@@ -6,7 +8,6 @@ ghost use lib.Dec.{ltb};
 ghost use lib.ListN.{length, set};
 ghost use mathlib.Core.Bool.{_&&_, cond};
 ghost use mathlib.Core.Path.{_≡_};
-// One asset's changes.
 use dayreport::Fault;
 use daytext::signed;
 use daytext::upto;

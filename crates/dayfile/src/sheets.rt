@@ -1,3 +1,5 @@
+// The sheet: how many assets, and a line of changes for each.
+
 ghost use Prim.Native.Nat.{_*_, _+_, _<_, _≤_};
 ghost use Rattle.dayfile.specs.Reading.{assetsRead, sheetRead};
 ghost use Rattle.dayfile.specs.Seen.{AssetRead, SheetRead, assetRead, seenAs};
@@ -6,7 +8,6 @@ ghost use Rattle.std.specs.Vec.{made};
 ghost use Rattle.terms.specs.Limits.{most-assets, most-scenarios};
 ghost use lib.ListN.{length};
 ghost use mathlib.Core.Path.{_≡_};
-// The sheet: how many assets, and a line of changes for each.
 use crate::fields::number;
 use crate::keys::Key;
 use crate::keys::after_key;

@@ -12,6 +12,10 @@ use Rattle.daytext.specs.Text.{decimal}
 use Rattle.dayreport.specs.declared.faults.Fault.{Fault}
 use Rattle.dayreport.specs.Faults.{refusalIn, lineIn, layerIn}
 
+-- room for the longest report
+abbrev pub report-bytes : ℕ
+report-bytes = 128
+
 -- a key, a number and byte 10
 abbrev pub lineText : List ℕ → ℕ → List ℕ
 lineText key n = key ++ (decimal n ++ (10 ∷ []))

@@ -1,3 +1,5 @@
+// The first fault of a day file.
+
 ghost use Rattle.dayreport.specs.Faults.{layerIn, lineIn, refusalIn};
 ghost use mathlib.Core.Path.{_≡_};
 use terms::Refusal;

@@ -1,8 +1,9 @@
+// The printed lines of a figure or of a fault.
+
 ghost use Prim.Native.Nat.{_+_, _≤_};
-ghost use Rattle.dayreport.specs.Printing.{Wrote, faultText, figureText, lineText, printed};
+ghost use Rattle.dayreport.specs.Printing.{Wrote, faultText, figureText, lineText, printed, report-bytes};
 ghost use lib.ListN.{length, take};
 ghost use mathlib.Core.Path.{_≡_};
-// The printed lines of a figure or of a fault.
 use crate::faults::Fault;
 use crate::reports::REPORT_BYTES;
 use crate::reports::Report;
@@ -10,7 +11,8 @@ use daytext::put;
 use daytext::put_number;
 use figures::Numbers;
 
-// Writes a line of a key and a number from the place `at` on, and answers the place behind it.
+// Writes a line of a key and a number from the place `at` on, and answers the place behind it. No number has more than 20
+// digits, and one byte ends the line.
 fn put_line(out: &mut [u8], at: usize, key: &[u8], n: u64) -> usize
     requires { ⌜ at + length (now key) + 21 ≤ length (now out) ⌝ }
     ensures wrote { λ r. ⌜ Wrote (now (out .entry)) at (lineText (now (key .entry)) n) r (now (out .exit)) ⌝ }
@@ -23,9 +25,9 @@ fn put_line(out: &mut [u8], at: usize, key: &[u8], n: u64) -> usize
 
 // Writes the lines of a figure, and answers their length.
 fn put_figure(out: &mut [u8], numbers: Numbers) -> usize
-    requires { ⌜ length (now out) ≡ 128 ⌝ }
+    requires { ⌜ length (now out) ≡ report-bytes ⌝ }
     ensures bytes { λ r. ⌜ take r (now (out .exit)) ≡ figureText numbers ⌝ }
-    ensures within { λ r. ⌜ r ≤ 128 ⌝ }
+    ensures within { λ r. ⌜ r ≤ report-bytes ⌝ }
 {
     let member = put_line(out, 0, b"member=", numbers.member);
     let segment = put_line(out, member, b"segment=", numbers.segment);
@@ -35,9 +37,9 @@ fn put_figure(out: &mut [u8], numbers: Numbers) -> usize
 
 // Writes the line of a fault, and answers its length.
 fn put_fault(out: &mut [u8], fault: Fault) -> usize
-    requires { ⌜ length (now out) ≡ 128 ⌝ }
+    requires { ⌜ length (now out) ≡ report-bytes ⌝ }
     ensures bytes { λ r. ⌜ take r (now (out .exit)) ≡ faultText fault ⌝ }
-    ensures within { λ r. ⌜ r ≤ 128 ⌝ }
+    ensures within { λ r. ⌜ r ≤ report-bytes ⌝ }
 {
     let key = put(out, 0, b"refused=");
     let number = put_number(out, key, fault.refusal().number() as u64);

@@ -1,4 +1,7 @@
+// What is printed, as bytes.
+
 ghost use Prim.Native.Nat.{_≤_};
+ghost use Rattle.dayreport.specs.Printing.{report-bytes};
 ghost use lib.ListN.{length};
 ghost use mathlib.Core.Path.{_≡_};
 
@@ -10,6 +13,6 @@ pub const REPORT_BYTES: usize = 128;
 pub struct Report {
     pub(crate) bytes: [u8; REPORT_BYTES],
     pub(crate) len: usize,
-    ghost long: { length bytes ≡ 128 },
-    ghost within: { len ≤ 128 },
+    ghost long: { length bytes ≡ report-bytes },
+    ghost within: { len ≤ report-bytes },
 }

@@ -11,7 +11,7 @@ use Rattle.std.proofs.shelf.Ways.{tells}
 use Rattle.std.proofs.shelf.Tests.{le-leb, lt-leb, ne-eqb, eq-eqb, cases-bool, cases-eq, cases-lt}
 use Rattle.std.specs.declared.option.Option.{Option}
 use Rattle.std.specs.declared.option.Option.the-variants.{Some, None}
-use Rattle.daytext.specs.Text.{digits, plainOf, decimal, NumbersStand, longest, Short}
+use Rattle.daytext.specs.Text.{digits, plainOf, decimal, longest, Short}
 use mathlib.Core.Logic.{_⊎_, inl, inr, ⊎-elim}
 use Rattle.std.specs.shelf.Digits.{digitsOf, number, numberAfter, Under}
 use Rattle.std.proofs.shelf.Digits.{digitsOf-step, number-push, number-lt, numberAfter-ge, under-digitsOf, length-digitsOf-step, first-digitsOf, length-digitsOf-le, number-digitsOf}
@@ -123,9 +123,9 @@ write-more : (ds : List ℕ) → Under 10 ds → 0 < length ds → 0 < getD ds 0
 write-more [] u h f l = absurd (omega arith)
 write-more (d ∷ ds) u h f l = plain-is (map (λ x. 48 + x) (d ∷ ds)) (omega arith) (λ e. omega arith) (omega (arith, length-map ds (λ x. 48 + x))) ∙ digits-write 0 (d ∷ ds) u
 
-written : (n : ℕ) → Short n → plainOf (decimal n) ≡ Some n
-written zero h = refl
-written (suc n) h = write-more (digitsOf 10 (suc n)) (under-digitsOf 10 (suc n) (omega arith)) (omega (arith, length-digitsOf-step 10 (suc n) (omega arith) (omega arith))) (first-digitsOf 10 (suc n) (omega arith) (omega arith)) (length-digitsOf-le 10 longest (suc n) (omega arith) h) ∙ ap Some (number-digitsOf 10 (suc n) (omega arith))
+pub number-written : (n : ℕ) → Short n → plainOf (decimal n) ≡ Some n
+number-written zero h = refl
+number-written (suc n) h = write-more (digitsOf 10 (suc n)) (under-digitsOf 10 (suc n) (omega arith)) (omega (arith, length-digitsOf-step 10 (suc n) (omega arith) (omega arith))) (first-digitsOf 10 (suc n) (omega arith) (omega arith)) (length-digitsOf-le 10 longest (suc n) (omega arith) h) ∙ ap Some (number-digitsOf 10 (suc n) (omega arith))
 
 zero-alone : (c n : ℕ) → c ≡ 48 → digits 0 (c ∷ []) ≡ Some n → ((c ∷ []) ≡ decimal n) × Short n
 zero-alone c n is e =
@@ -133,20 +133,16 @@ zero-alone c n is e =
     let none : 0 ≡ n = omega (arith, r .value) in
     (ap (λ x. x ∷ []) is ∙ ap decimal none, omega arith)
 
-read : (bs : List ℕ) (n : ℕ) → plainOf bs ≡ Some n → (bs ≡ decimal n) × Short n
-read [] n e = none-some e
-read (c ∷ []) n e = ⊎-elim (λ is. zero-alone c n is e) (λ no′. read-more (c ∷ []) n e (omega arith) no′ (omega arith)) (cases-eq c 48)
-read (c ∷ d ∷ cs) n e = ⊎-elim
+pub number-read : (bs : List ℕ) (n : ℕ) → plainOf bs ≡ Some n → (bs ≡ decimal n) × Short n
+number-read [] n e = none-some e
+number-read (c ∷ []) n e = ⊎-elim (λ is. zero-alone c n is e) (λ no′. read-more (c ∷ []) n e (omega arith) no′ (omega arith)) (cases-eq c 48)
+number-read (c ∷ d ∷ cs) n e = ⊎-elim
     (λ is. none-some (sym (ap (λ b. cond b None (cond (leb (length (c ∷ d ∷ cs)) longest) (digits 0 (c ∷ d ∷ cs)) None)) (eq-eqb c 48 is)) ∙ e))
     (λ no′. ⊎-elim
     (λ long. none-some (sym (ap (λ b. cond b None (cond (leb (length (c ∷ d ∷ cs)) longest) (digits 0 (c ∷ d ∷ cs)) None)) (ne-eqb c 48 no′) ∙ ap (λ b. cond b (digits 0 (c ∷ d ∷ cs)) None) (lt-leb _ _ long)) ∙ e))
     (λ short. read-more (c ∷ d ∷ cs) n (sym (plain-is (c ∷ d ∷ cs) (omega arith) no′ short) ∙ e) (omega arith) no′ short)
     (cases-lt longest (length (c ∷ d ∷ cs))))
     (cases-eq c 48)
-
--- reading and writing are inverse
-pub stand : NumbersStand
-stand = record { written = written; read = read }
 
 -- how many digits a number has
 pub decimal-some : (n : ℕ) → 1 ≤ length (decimal n)

@@ -5,7 +5,7 @@ use mathlib.Core.Logic.{⊎-elim}
 use mathlib.Core.List.{List, [], _∷_, _++_, map}
 use Prim.Native.Nat.{ℕ, zero, suc, _+_, _<_}
 use lib.Dec.{eqb}
-use lib.IntN.{ℤ, pos, negsuc}
+use lib.IntN.{ℤ, pos, negsuc, natAbs}
 use native.Mathlib.Omega.{arith}
 use Rattle.std.specs.shelf.Lists.{All, joined}
 use Rattle.std.specs.shelf.Digits.{digitsOf}
@@ -13,8 +13,8 @@ use Rattle.std.proofs.shelf.Lists.{append-assoc, append-nil}
 use Rattle.std.proofs.shelf.Tests.{eq-eqb, ne-eqb, eqb-true, cases-eq, and-parts}
 use Rattle.std.specs.declared.option.Option.{Option}
 use Rattle.std.specs.declared.option.Option.the-variants.{Some, None}
-use Rattle.daytext.specs.Text.{plainOf, signedOf, below, above, decimal, signedText, Short, size, Parts, more, parted, joinedBy, glued, after, same}
-use Rattle.daytext.proofs.Numerals.{stand, none-some}
+use Rattle.daytext.specs.Text.{NumbersStand, plainOf, signedOf, below, above, decimal, signedText, Short, Parts, more, parted, joinedBy, glued, after, same}
+use Rattle.daytext.proofs.Numerals.{number-written, number-read, none-some}
 
 -- the byte c stands nowhere in the text
 abbrev pub Without : ℕ → List ℕ → Type 0
@@ -26,10 +26,10 @@ without-append c (x ∷ xs) ys h k = (h .0, without-append c xs ys (h .1) k)
 
 -- Numbers: a lemma in -made reads what is written, and one in -back writes what was read
 pub plain-made : (n : ℕ) → Short n → plainOf (decimal n) ≡ Some n
-plain-made = stand .written
+plain-made = number-written
 
 pub plain-back : (bs : List ℕ) (n : ℕ) → plainOf bs ≡ Some n → (bs ≡ decimal n) × Short n
-plain-back = stand .read
+plain-back = number-read
 
 digits-without : (c : ℕ) → c < 48 → (ds : List ℕ) → Without c (map (λ d. 48 + d) ds)
 digits-without c h [] = tt
@@ -48,25 +48,25 @@ minus-not : (bs : List ℕ) → Without 45 bs → signedOf bs ≡ above (plainOf
 minus-not [] h = refl
 minus-not (c ∷ cs) h = ap (λ b. cond b (below (plainOf cs)) (above (plainOf (c ∷ cs)))) (ne-eqb c 45 (h .0))
 
-pub signed-made : (z : ℤ) → Short (size z) → signedOf (signedText z) ≡ Some z
+pub signed-made : (z : ℤ) → Short (natAbs z) → signedOf (signedText z) ≡ Some z
 signed-made (pos n) h = minus-not (decimal n) (decimal-without 45 n (omega arith)) ∙ ap above (plain-made n h)
 signed-made (negsuc n) h = ap below (plain-made (suc n) h)
 
-below-back : (bs : List ℕ) (o : Option ℕ) (z : ℤ) → plainOf bs ≡ o → below o ≡ Some z → ((45 ∷ bs) ≡ signedText z) × Short (size z)
+below-back : (bs : List ℕ) (o : Option ℕ) (z : ℤ) → plainOf bs ≡ o → below o ≡ Some z → ((45 ∷ bs) ≡ signedText z) × Short (natAbs z)
 below-back bs None z e h = none-some h
 below-back bs (Some zero) z e h = none-some h
 below-back bs (Some (suc n)) z e h =
     let is : negsuc n ≡ z = cc in
     let r = plain-back bs (suc n) e in
-    subst (λ x. ((45 ∷ bs) ≡ signedText x) × Short (size x)) is (ap (λ l. 45 ∷ l) (r .0), r .1)
+    subst (λ x. ((45 ∷ bs) ≡ signedText x) × Short (natAbs x)) is (ap (λ l. 45 ∷ l) (r .0), r .1)
 
-above-back : (bs : List ℕ) (o : Option ℕ) (z : ℤ) → plainOf bs ≡ o → above o ≡ Some z → (bs ≡ signedText z) × Short (size z)
+above-back : (bs : List ℕ) (o : Option ℕ) (z : ℤ) → plainOf bs ≡ o → above o ≡ Some z → (bs ≡ signedText z) × Short (natAbs z)
 above-back bs None z e h = none-some h
 above-back bs (Some n) z e h =
     let is : pos n ≡ z = cc in
-    subst (λ x. (bs ≡ signedText x) × Short (size x)) is (plain-back bs n e)
+    subst (λ x. (bs ≡ signedText x) × Short (natAbs x)) is (plain-back bs n e)
 
-pub signed-back : (bs : List ℕ) (z : ℤ) → signedOf bs ≡ Some z → (bs ≡ signedText z) × Short (size z)
+pub signed-back : (bs : List ℕ) (z : ℤ) → signedOf bs ≡ Some z → (bs ≡ signedText z) × Short (natAbs z)
 signed-back [] z h = none-some h
 signed-back (c ∷ cs) z h = ⊎-elim
     (λ is.
@@ -74,6 +74,10 @@ signed-back (c ∷ cs) z h = ⊎-elim
     (ap (λ x. x ∷ cs) is ∙ r .0, r .1))
     (λ no′. above-back (c ∷ cs) (plainOf (c ∷ cs)) z refl (sym (ap (λ b. cond b (below (plainOf cs)) (above (plainOf (c ∷ cs)))) (ne-eqb c 45 no′)) ∙ h))
     (cases-eq c 45)
+
+-- reading and writing of numbers are inverse
+pub stand : NumbersStand
+stand = record { written = plain-made; read = plain-back; signed-written = signed-made; signed-read = signed-back }
 
 -- Keys
 pub after-made : (k t : List ℕ) → after k (k ++ t) ≡ Some t

@@ -6,7 +6,7 @@ use mathlib.Core.List.{List, [], _∷_, _++_, map}
 use mathlib.Core.Path.{_≡_}
 use Prim.Native.Nat.{ℕ, zero, suc, _+_, _-_, _*_, _^_, _<_, _≤_}
 use lib.Dec.{leb, eqb}
-use lib.IntN.{ℤ, pos, negsuc}
+use lib.IntN.{ℤ, pos, negsuc, natAbs}
 use lib.ListN.{length, take, drop}
 use Rattle.std.specs.declared.option.Option.{Option}
 use Rattle.std.specs.declared.option.Option.the-variants.{Some, None}
@@ -62,11 +62,6 @@ signedText (negsuc n) = 45 ∷ decimal (suc n)
 abbrev pub Short : ℕ → Type 0
 Short n = n < 10 ^ longest
 
--- a number without its sign
-abbrev pub size : ℤ → ℕ
-size (pos n) = n
-size (negsuc n) = suc n
-
 -- a number that was read is short
 abbrev pub Small : Option ℕ → Type 0
 Small None = Unit {0}
@@ -75,12 +70,14 @@ Small (Some n) = Short n
 -- a signed number that was read is short in size
 abbrev pub SmallSize : Option ℤ → Type 0
 SmallSize None = Unit {0}
-SmallSize (Some z) = Short (size z)
+SmallSize (Some z) = Short (natAbs z)
 
 -- each short number is read from the text that writes it, and from no other text
 pub record NumbersStand : Type 0 where
   pub written : (n : ℕ) → Short n → plainOf (decimal n) ≡ Some n
   pub read : (bs : List ℕ) (n : ℕ) → plainOf bs ≡ Some n → (bs ≡ decimal n) × Short n
+  pub signed-written : (z : ℤ) → Short (natAbs z) → signedOf (signedText z) ≡ Some z
+  pub signed-read : (bs : List ℕ) (z : ℤ) → signedOf bs ≡ Some z → (bs ≡ signedText z) × Short (natAbs z)
 
 -- PARTS OF A TEXT
 

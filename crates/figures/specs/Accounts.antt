@@ -10,7 +10,7 @@ use Rattle.std.specs.shelf.Lists.{folded}
 use Rattle.std.specs.Iters.{counting}
 use Rattle.std.specs.declared.result.Result.{Result}
 use Rattle.std.specs.declared.result.Result.the-variants.{Ok, Err}
-use Rattle.terms.specs.Limits.{within, most-assets, most-positions, change-limit, quantity-limit, margin-limit, column-limit}
+use Rattle.terms.specs.Limits.{within, most-scenarios, most-assets, most-positions, change-limit, quantity-limit, margin-limit, column-limit}
 use Rattle.std.specs.declared.option.Option.{Option}
 use Rattle.std.specs.declared.option.Option.the-variants.{Some, None}
 use Rattle.terms.specs.Refusing.{Tests, firstRefusal}
@@ -135,7 +135,7 @@ gain-limit = most-positions * product-limit
 -- a sheet and positions that passed their tests
 pub record Tested (sheet : List ℤ) (scenarios assets : ℕ) (ps : List Position) : Type 0 where
   pub long : length sheet ≡ scenarios * assets
-  pub narrow : scenarios ≤ 65536
+  pub narrow : scenarios ≤ most-scenarios
   pub few : assets ≤ most-assets
   pub changes : every changeOk sheet ≡ true
   pub count : length ps ≤ most-positions

@@ -1,3 +1,5 @@
+// The tests that an account has to pass before it is tallied.
+
 ghost use Prim.Native.Nat.{_≤_};
 ghost use Rattle.figures.specs.Accounts.{changeOk, every, marginsOk, positionOk, positionsOk, quantityOk, sheetOk};
 ghost use mathlib.Core.Path.{_≡_};

@@ -1,6 +1,8 @@
+// An account's gain, its offset, and the columns that it raises.
+
 ghost use Prim.Native.Nat.{ℕ, _*_, _<_, _≤_};
 ghost use Rattle.figures.specs.Accounts.{Limited, Tested, changeIn, changeOk, columnOk, every, excessOf, gain-limit, gainIn, offsetOf, product-limit, quantityOk, raised};
-ghost use Rattle.terms.specs.Limits.{margin-limit, most-assets};
+ghost use Rattle.terms.specs.Limits.{margin-limit, most-assets, most-scenarios};
 ghost use lib.IntN.{_*ℤ_, natAbs, negℤ};
 ghost use lib.ListN.{getD, length};
 ghost use mathlib.Core.Bool.{true};
@@ -22,7 +24,7 @@ pub(crate) fn offset(account: Account) -> u64
 }
 
 fn change_at(sheet: &[i32], scenarios: usize, j: usize, assets: usize, asset: usize) -> i64
-    requires { ⌜ length (now sheet) ≡ scenarios * assets ⌝ ∗ ⌜ scenarios ≤ 65536 ⌝ ∗ ⌜ assets ≤ most-assets ⌝ ∗ ⌜ j < scenarios ⌝ ∗ ⌜ asset < assets ⌝ }
+    requires { ⌜ length (now sheet) ≡ scenarios * assets ⌝ ∗ ⌜ scenarios ≤ most-scenarios ⌝ ∗ ⌜ assets ≤ most-assets ⌝ ∗ ⌜ j < scenarios ⌝ ∗ ⌜ asset < assets ⌝ }
     ensures { λ r. ⌜ r ≡ changeIn (now (sheet .entry)) scenarios j asset ⌝ }
 {
     sheet[asset * scenarios + j] as i64

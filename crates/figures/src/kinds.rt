@@ -1,3 +1,5 @@
+// The types of the protocol: accounts and positions, and heading, tally and figure with what each of them keeps.
+
 ghost use Prim.Native.Nat.{ℕ, _≤_};
 ghost use Rattle.terms.specs.Limits.{column-limit, figure-limit, last-day, last-member, last-segment, most-scenarios};
 ghost use lib.ListN.{getD, length};

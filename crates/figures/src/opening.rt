@@ -1,3 +1,5 @@
+// A heading, checked and opened.
+
 ghost use Rattle.figures.specs.Headings.{Headed, Opened, headingTests};
 ghost use Rattle.std.specs.Vec.{made};
 ghost use Rattle.terms.specs.Refusing.{firstRefusal, refusalOf};

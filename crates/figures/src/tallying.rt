@@ -1,3 +1,5 @@
+// A tally that takes accounts and is struck, and the figure that comes of it.
+
 ghost use Rattle.figures.specs.Accounts.{Added, addTests, columnsAfter};
 ghost use Rattle.figures.specs.Strikes.{Struck, largestOf, numbersOf};
 ghost use Rattle.terms.specs.Refusing.{firstRefusal, refusalOf};

@@ -1,3 +1,5 @@
+// Classes of members, and the duties of each.
+
 ghost use Rattle.terms.specs.Classes.{classOf, owed};
 ghost use mathlib.Core.Path.{_≡_};
 

@@ -1,3 +1,5 @@
+// Every reason for which a call is turned away, and its number.
+
 ghost use Rattle.terms.specs.Refusing.{numberOf};
 ghost use mathlib.Core.Path.{_≡_};
 
