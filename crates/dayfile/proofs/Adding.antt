@@ -8,7 +8,6 @@ use Rattle.std.specs.declared.option.Option.the-variants.{Some, None}
 use Rattle.std.specs.declared.result.Result.the-variants.{Ok, Err}
 use Rattle.terms.specs.Refusing.{firstRefusal}
 use Rattle.terms.specs.declared.refusals.Refusal.{Refusal}
-use Rattle.figures.specs.declared.kinds.Account.{Account}
 use Rattle.figures.specs.declared.kinds.Position.{Position}
 use Rattle.figures.specs.Accounts.{addTests, adding, offsetOf, raised}
 use Rattle.dayfile.specs.declared.body.Open.{Open}

@@ -1,25 +1,25 @@
 -- The loop over the fields of a line of changes. Assumes nothing.
 use mathlib.Core.Path.{_≡_, refl, sym, ap, subst, _∙_}
 use mathlib.Core.Bool.{Bool, true, false, cond, _&&_}
-use mathlib.Core.Logic.{_⊎_, inl, inr, ⊎-elim}
+use mathlib.Core.Logic.{_⊎_, ⊎-elim}
 use mathlib.Core.List.{List, [], _∷_, _++_}
-use Prim.Native.Nat.{ℕ, zero, suc, _+_, _-_, _≤_, _<_}
-use lib.Dec.{leb, eqb, ltb}
+use Prim.Native.Nat.{ℕ, _+_, _-_, _≤_, _<_}
+use lib.Dec.{eqb, ltb}
 use lib.ListN.{length, getD, take, drop, set, length-drop, length-set}
 use lib.IntN.{ℤ, pos}
 use native.Mathlib.Nat.{sub-zero}
 use native.Mathlib.Omega.{arith}
 use Rattle.std.specs.shelf.Lists.{leading}
 use Rattle.std.proofs.shelf.Lists.{append-assoc, append-nil, take-append-drop, length-append, length-take-le, at-drop-more, set-at, take-all, take-rest}
-use Rattle.std.proofs.shelf.Tests.{eq-eqb, ne-eqb, lt-ltb, cases-bool, cases-eq, and-parts, eqb-true}
+use Rattle.std.proofs.shelf.Tests.{lt-ltb, cases-eq, and-parts, eqb-true}
 use Rattle.std.specs.declared.option.Option.{Option}
 use Rattle.std.specs.declared.option.Option.the-variants.{Some, None}
 use Rattle.std.specs.declared.result.Result.{Result}
-use Rattle.std.specs.declared.result.Result.the-variants.{Ok, Err}
+use Rattle.std.specs.declared.result.Result.the-variants.{Ok}
 use Rattle.dayreport.specs.declared.faults.Fault.{Fault}
 use Rattle.dayreport.specs.declared.faults.Fault.the-variants.{Line}
 use Rattle.terms.specs.declared.refusals.Refusal.the-variants as refusals
-use Rattle.daytext.specs.Text.{Parts, more, parted, signedOf, unlike, fieldsOf}
+use Rattle.daytext.specs.Text.{Parts, signedOf, unlike, fieldsOf}
 use Rattle.figures.specs.Accounts.{every, changeOk}
 use Rattle.dayfile.specs.Reading.{_>>=_, _>>_, want, given, also, numbers, changes}
 use Rattle.dayfile.specs.Seen.{verdictOf, RowRead}

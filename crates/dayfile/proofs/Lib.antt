@@ -3,9 +3,9 @@ mod Begins
 mod Bodies
 mod ChangeRows
 mod Files
-mod Filling
 mod LineFields
 mod Outcomes
+mod Padding
 mod SheetRows
 mod Steps
 mod Turns

@@ -2,14 +2,14 @@
 use mathlib.Core.Path.{_≡_, refl, sym, ap, subst, _∙_}
 use mathlib.Core.Bool.{true, false, cond}
 use mathlib.Core.List.{List, [], _++_}
-use Prim.Native.Nat.{ℕ, _+_, _-_, _*_, _≤_, _<_}
+use Prim.Native.Nat.{ℕ, _+_, _-_, _*_, _≤_}
 use native.Mathlib.Nat.{sub-zero}
 use denote.Ref.{RefT}
 use lib.Dec.{leb}
 use lib.IntN.{ℤ, pos}
 use lib.ListN.{length, take, drop}
 use Rattle.std.proofs.shelf.Lists.{take-at}
-use Rattle.std.proofs.shelf.Tests.{le-leb, lt-leb}
+use Rattle.std.proofs.shelf.Tests.{le-leb}
 use Rattle.std.specs.declared.option.Option.the-variants.{None}
 use Rattle.std.specs.declared.result.Result.{Result}
 use Rattle.std.specs.declared.result.Result.the-variants.{Ok, Err}
@@ -26,7 +26,7 @@ use Rattle.dayreport.specs.declared.faults.Fault.{Fault}
 use Rattle.dayreport.specs.declared.faults.Fault.the-variants.{Line}
 use Rattle.dayfile.specs.declared.head.Head.{Head}
 use Rattle.dayfile.specs.Days.{Day, Entry, Good, Rule, figureOf, flat, taking, tallied, written, zeros}
-use Rattle.dayfile.specs.Reading.{_>>=_, _>>_, file, headRead, headed, linesRead, reading, run, sheetRead, want}
+use Rattle.dayfile.specs.Reading.{_>>=_, _>>_, file, headRead, headed, linesRead, reading, run, sheetRead}
 use Rattle.dayfile.specs.Outcome.{DayRead, Exactly, Outcome, answerOf, changesAfter, figured, lengthsOk, nothing-held, padded, positionsAfter}
 use Rattle.dayfile.specs.Seen.{BodyRead, SheetRead, lastOf}
 use Rattle.dayfile.proofs.Files.{day-back, day-once, day-only}
@@ -34,9 +34,6 @@ use Rattle.dayfile.proofs.Steps.{err-ok, ok-same, then-made, want-made}
 
 pub fault-told : (bytes : List ℕ) (r : Result Figure Fault) (e : Fault) (changes : List ℤ) (positions : List Position) → r ≡ Err e → reading bytes ≡ Err e → DayRead (reading bytes) r changes positions
 fault-told bytes r e changes positions a b = subst (λ y. DayRead (reading bytes) y changes positions) (sym a) (subst (λ y. DayRead y (Err e) changes positions) (sym b) refl)
-
-pub too-long : (bytes : List ℕ) → most-file-bytes < length bytes → reading bytes ≡ Err (Line refusals.TooLong 1)
-too-long bytes h = ap (λ b. _>>_ (want b (Line refusals.TooLong 1)) (file (parted 10 bytes))) (lt-leb _ _ h)
 
 -- each part of the file answers in its turn
 abbrev by-head : Result (Head × Parts) Fault → Result Day Fault

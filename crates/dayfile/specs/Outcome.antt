@@ -1,7 +1,7 @@
 -- What reading a day file leaves: its answer, and the caller's lists.
 use mathlib.Core.Path.{_≡_}
 use mathlib.Core.Bool.{Bool, cond, _&&_}
-use mathlib.Core.List.{List, [], _∷_, _++_}
+use mathlib.Core.List.{List, [], _++_}
 use Prim.Native.Nat.{ℕ, _-_}
 use lib.Dec.{eqb}
 use lib.IntN.{ℤ, pos}
@@ -16,7 +16,7 @@ use Rattle.figures.specs.declared.kinds.Position.{Position}
 use Rattle.figures.specs.Strikes.{numbersOf}
 use Rattle.dayreport.specs.declared.faults.Fault.{Fault}
 use Rattle.dayreport.specs.declared.faults.Fault.the-variants.{Line}
-use Rattle.dayfile.specs.Days.{Day, Entry, Good, figureOf, flat, written}
+use Rattle.dayfile.specs.Days.{Day, Good, figureOf, flat, written}
 use Rattle.dayfile.specs.Reading.{reading}
 use Rattle.dayfile.specs.Seen.{lastOf}
 

@@ -3,7 +3,6 @@ mod body;
 mod fields;
 mod head;
 mod keys;
-mod lists;
 mod reading;
 mod rows;
 mod sheets;

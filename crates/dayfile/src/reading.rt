@@ -10,7 +10,6 @@ ghost use mathlib.Core.Path.{_≡_};
 use crate::body::accounts;
 use crate::head::checked;
 use crate::head::first_lines;
-use crate::lists::fill;
 use crate::sheets::sheet;
 use dayreport::Fault;
 use figures::Figure;
@@ -19,6 +18,7 @@ use terms::Refusal;
 use terms::limits::MOST_CHANGES;
 use terms::limits::MOST_FILE_BYTES;
 use terms::limits::MOST_POSITIONS;
+use terms::lists::fill;
 
 const NOTHING_HELD: Position = Position {
     asset: 0,

@@ -3,30 +3,19 @@ use mathlib.Core.Path.{_≡_, refl, sym, ap, _∙_}
 use mathlib.Core.Bool.{Bool, cond, not}
 use mathlib.Core.Logic.{⊎-elim}
 use mathlib.Core.List.{List, [], _∷_, _++_}
-use Prim.Native.Nat.{ℕ, zero, suc, _+_, _-_, _≤_, _<_}
+use Prim.Native.Nat.{ℕ, suc, _+_, _-_, _≤_, _<_}
 use lib.Dec.{eqb}
 use lib.ListN.{length, getD, take, drop, length-drop}
 use native.Mathlib.Nat.{sub-zero}
 use native.Mathlib.Omega.{arith}
 use Rattle.std.specs.shelf.Lists.{between, leading}
 use Rattle.std.proofs.shelf.Lists.{take-rest, at-drop-more, at-drop-all}
-use Rattle.std.proofs.shelf.Fronts.{front-from-reads, front-fits}
+use Rattle.std.proofs.shelf.Fronts.{front-fits}
 use Rattle.std.proofs.shelf.Tests.{cases-bool, eq-eqb, ne-eqb}
 use Rattle.daytext.specs.Text.{FirstAt, Parts, more, parted, after, unlike}
 use Rattle.std.specs.declared.option.Option.{Option}
 use Rattle.std.specs.declared.option.Option.the-variants.{Some, None}
 use Rattle.daytext.proofs.Texts.{after-back, cut}
-
--- a text that begins with four bytes
-pub front4 : (xs : List ℕ) (a b c d : ℕ) → 4 ≤ length xs → getD xs 0 0 ≡ a → getD xs 1 0 ≡ b → getD xs 2 0 ≡ c → getD xs 3 0 ≡ d → xs ≡ a ∷ b ∷ c ∷ d ∷ take (length xs - 4) (drop 4 xs)
-front4 xs a b c d h p q r s = front-from-reads 0 xs (a ∷ b ∷ c ∷ d ∷ []) h reads ∙ ap (λ l. a ∷ b ∷ c ∷ d ∷ l) (sym (take-rest xs 4))
-  where
-    reads : (i : ℕ) → i < 4 → getD xs i 0 ≡ getD (a ∷ b ∷ c ∷ d ∷ []) i 0
-    reads zero h = p
-    reads (suc zero) h = q
-    reads (suc (suc zero)) h = r
-    reads (suc (suc (suc zero))) h = s
-    reads (suc (suc (suc (suc i)))) h = absurd (omega arith)
 
 -- how far the first separator is from a byte that is one, or is none
 abbrev steps : ℕ → List ℕ → Bool → ℕ

@@ -155,6 +155,3 @@ decimal-within k (suc n) h small = simp length-map (length-digitsOf-le 10 k (suc
 
 pub decimal-long : (n : ℕ) → n < 2 ^ 64 → length (decimal n) ≤ 20
 decimal-long n small = decimal-within 20 n (omega arith) (omega arith)
-
-pub decimal-short : (n : ℕ) → Short n → length (decimal n) ≤ longest
-decimal-short n small = decimal-within longest n (omega arith) small

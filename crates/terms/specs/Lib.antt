@@ -1,3 +1,4 @@
 pub mod Limits
 pub mod Refusing
 pub mod Classes
+pub mod Sums

@@ -53,6 +53,29 @@ most-file-bytes = 60000
 abbrev pub mil : ℕ
 mil = 1000
 
+-- the records of the two tables
+abbrev pub all-seats : ℕ
+all-seats = 320
+
+abbrev pub all-pledges : ℕ
+all-pledges = 64
+
+-- a minimum, in mils
+abbrev pub minimum-limit : ℕ
+minimum-limit = 1000000
+
+-- an amount that is asked, paid or pledged, in mils
+abbrev pub amount-limit : ℕ
+amount-limit = 1000000000
+
+-- what a segment holds, in mils
+abbrev pub held-limit : ℕ
+held-limit = 2000000000
+
+-- the days in a mean
+abbrev pub most-days : ℕ
+most-days = 66
+
 -- a number from low to high, both of them good
 abbrev pub within : ℕ → ℕ → ℕ → Bool
 within low high x = leb low x && leb x high

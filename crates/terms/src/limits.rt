@@ -38,3 +38,24 @@ pub const MOST_FILE_BYTES: usize = 60_000;
 
 /// The changes of the largest sheet.
 pub const MOST_CHANGES: usize = 4_096;
+
+/// The seat records of a book: five segments for each of 64 members.
+pub const ALL_SEATS: usize = 320;
+
+/// The pledge records of a book, one for each member.
+pub const ALL_PLEDGES: usize = 64;
+
+/// A seat's minimum, in mils.
+pub const MINIMUM_LIMIT: u64 = 1_000_000;
+
+/// An amount that is asked, paid or pledged, in mils.
+pub const AMOUNT_LIMIT: u64 = 1_000_000_000;
+
+/// What a segment holds, in mils.
+pub const HELD_LIMIT: u64 = 2_000_000_000;
+
+/// A figure, in mils.
+pub const FIGURE_LIMIT: u64 = 1_000_000_000;
+
+/// The days in a mean.
+pub const MOST_DAYS: u64 = 66;

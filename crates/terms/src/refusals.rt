@@ -22,6 +22,30 @@ pub enum Refusal {
     Margin,
     /// A column would pass its limit.
     Column,
+    /// The tables are no book.
+    NoBook,
+    /// The seat is taken.
+    SeatTaken,
+    /// The class is unknown, or unlike that of the member's other seats.
+    WrongClass,
+    /// The minimum is not as a book has it.
+    Minimum,
+    /// The amount is out of range.
+    Amount,
+    /// A ceiling of the book would be passed.
+    Ceiling,
+    /// There is no such seat.
+    NoSeat,
+    /// The day is not after the last one booked.
+    PastDay,
+    /// The mean has all the days that it can have.
+    DaysFull,
+    /// The class is exempt from this.
+    Exempt,
+    /// A seat holds less than is asked of it.
+    Short,
+    /// Less than is asked, or than was pledged, would stay.
+    TooLittleLeft,
     /// A list that the caller brought has the wrong length.
     Lengths,
     /// A line has another key than the one expected, or does not end.
@@ -48,6 +72,18 @@ impl Refusal {
             Refusal::Positions => 6,
             Refusal::Margin => 7,
             Refusal::Column => 8,
+            Refusal::NoBook => 10,
+            Refusal::SeatTaken => 11,
+            Refusal::WrongClass => 12,
+            Refusal::Minimum => 13,
+            Refusal::Amount => 14,
+            Refusal::Ceiling => 15,
+            Refusal::NoSeat => 16,
+            Refusal::PastDay => 17,
+            Refusal::DaysFull => 18,
+            Refusal::Exempt => 19,
+            Refusal::Short => 20,
+            Refusal::TooLittleLeft => 24,
             Refusal::Lengths => 27,
             Refusal::Key => 31,
             Refusal::Field => 32,

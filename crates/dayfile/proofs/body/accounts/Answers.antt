@@ -1,10 +1,8 @@
-use mathlib.Core.Path.{_≡_, sym, ap, subst, _∙_}
-use mathlib.Core.List.{List}
+use mathlib.Core.Path.{sym, ap, subst, _∙_}
 use Prim.Native.Nat.{_+_}
-use lib.ListN.{set}
 use native.Mathlib.Omega.{arith}
 use Rattle.std.specs.declared.option.Option.the-variants.{Some, None}
-use Rattle.dayfile.specs.Days.{Entry, taking}
+use Rattle.dayfile.specs.Days.{taking}
 use Rattle.dayfile.proofs.Turns.{Whole, State, Sofar, inHand, err-read, doneAfter, acc-not-pos, end-not-pos, row-not-pos, rule-kept, columns-kept, tail-refused, pos-more, refused, acc-more, end-wrong, end-after, end-read, unknown}
 use Rattle.dayfile.proofs.body.accounts.Needs as need
 use Rattle.dayfile.proofs.body.accounts.Needs.{in-Position-row-of·in-Some-hand·in-Some-position·else-count-eq-MOST-POSITIONS, in-Account·in-rest-settle-2·in-Some-account}

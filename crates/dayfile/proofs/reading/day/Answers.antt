@@ -1,20 +1,20 @@
-use mathlib.Core.Path.{_≡_, sym, ap, _∙_}
-use mathlib.Core.List.{List, [], _++_}
+use mathlib.Core.Path.{sym, ap, _∙_}
+use mathlib.Core.List.{[], _++_}
 use Prim.Native.Nat.{_+_}
 use native.Mathlib.Omega.{arith}
 use lib.IntN.{pos}
-use lib.ListN.{length, drop, replicate}
+use lib.ListN.{length, drop}
 use Rattle.std.proofs.shelf.Results.{err-from-errBy}
 use Rattle.std.specs.declared.option.Option.the-variants.{None}
 use Rattle.std.specs.declared.result.Result.the-variants.{Ok, Err}
 use Rattle.terms.specs.Limits.{most-changes, most-positions}
-use Rattle.figures.specs.Strikes.{inMils, largestOf, numbersOf}
+use Rattle.figures.specs.Strikes.{inMils, largestOf}
 use Rattle.daytext.specs.Text.{parted}
-use Rattle.dayfile.specs.Days.{Day, figureOf, flat, taking, zeros}
+use Rattle.dayfile.specs.Days.{Day, flat, taking, zeros}
 use Rattle.dayfile.specs.Outcome.{nothing-held}
 use Rattle.dayfile.specs.Reading.{run, sheetRead}
-use Rattle.dayfile.specs.Seen.{BodyRead, lastOf}
-use Rattle.dayfile.proofs.Filling.{padded-front, padded-rest}
+use Rattle.dayfile.specs.Seen.{lastOf}
+use Rattle.dayfile.proofs.Padding.{padded-front, padded-rest}
 use Rattle.dayfile.proofs.Outcomes.{fault-told, day-told, lines-bad, heading-bad, sheet-bad, body-bad, body-good, sheet-fault, sheet-filled, sheet-front, body-fault, body-read, body-at}
 use Rattle.dayfile.proofs.reading.day.Needs as need
 

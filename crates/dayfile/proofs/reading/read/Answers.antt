@@ -1,4 +1,4 @@
-use mathlib.Core.Path.{_≡_, refl, sym, _∙_}
+use mathlib.Core.Path.{refl, sym, _∙_}
 use mathlib.Core.Bool.{true}
 use mathlib.Core.List.{[]}
 use native.Mathlib.Omega.{arith}
@@ -7,8 +7,8 @@ use lib.IntN.{pos}
 use lib.ListN.{length}
 use Rattle.std.proofs.shelf.Tests.{and-parts, eqb-true, true≢false}
 use Rattle.terms.specs.Limits.{most-changes, most-positions}
-use Rattle.dayfile.specs.Outcome.{lengthsOk, nothing-held}
-use Rattle.dayfile.proofs.Filling.{padded-rest}
+use Rattle.dayfile.specs.Outcome.{nothing-held}
+use Rattle.dayfile.proofs.Padding.{padded-rest}
 use Rattle.dayfile.proofs.Outcomes.{lengths-bad, read-good, read-bad, exactly}
 use Rattle.dayfile.proofs.reading.read.Needs as need
 

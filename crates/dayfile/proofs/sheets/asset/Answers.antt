@@ -1,4 +1,3 @@
-use native.Mathlib.Omega.{arith}
 use Rattle.dayfile.proofs.SheetRows.{asset-good, asset-bad}
 use Rattle.dayfile.proofs.sheets.asset.Needs as need
 

@@ -1,4 +1,4 @@
-use mathlib.Core.Path.{_≡_, ap, subst}
+use mathlib.Core.Path.{_≡_, subst}
 use mathlib.Core.List.{[]}
 use Prim.Native.Nat.{suc}
 use native.Mathlib.Omega.{arith}

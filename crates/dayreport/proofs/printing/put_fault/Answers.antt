@@ -1,4 +1,4 @@
-use mathlib.Core.Path.{_≡_, ap, _∙_}
+use mathlib.Core.Path.{ap, _∙_}
 use mathlib.Core.List.{List, [], _∷_, _++_}
 use Prim.Native.Nat.{ℕ}
 use native.Mathlib.Omega.{arith}
@@ -6,7 +6,7 @@ use lib.Chars.{codes}
 use Rattle.daytext.specs.Text.{decimal}
 use Rattle.daytext.proofs.Numerals.{decimal-long}
 use Rattle.terms.specs.Refusing.{numberOf}
-use Rattle.dayreport.specs.Faults.{refusalIn, lineIn, layerIn}
+use Rattle.dayreport.specs.Faults.{refusalIn, lineIn}
 use Rattle.dayreport.specs.Printing.{Wrote}
 use Rattle.dayreport.proofs.Writing.{wrote, wrote-more}
 use Rattle.dayreport.proofs.printing.put_fault.Needs as need

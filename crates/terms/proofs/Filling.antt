@@ -1,12 +1,10 @@
--- A list that is filled from a place on, and lists with zeros behind. Assumes nothing.
-use mathlib.Core.Path.{_≡_, refl, sym, ap, _∙_}
+-- A list that is filled from a place on. Assumes nothing.
+use mathlib.Core.Path.{_≡_, sym, ap, _∙_}
 use mathlib.Core.List.{List, [], _∷_, _++_}
 use Prim.Native.Nat.{ℕ, _+_, _-_, _≤_, _<_}
-use native.Mathlib.Nat.{sub-zero}
 use native.Mathlib.Omega.{arith}
 use lib.ListN.{length, take, drop, set, getD, replicate, length-replicate}
 use Rattle.std.proofs.shelf.Lists.{append-assoc, append-nil, length-append, length-take-le, take-append-drop, at-drop-more, at-drop-all, set-at, replicate-more, drop-replicate}
-use Rattle.dayfile.specs.Outcome.{padded}
 
 module _ {X : Type 0} (old : List X) (from : ℕ) (v : X) where
   pub fill-start : old ≡ (take from old ++ replicate (from - from) v) ++ drop from old
@@ -24,24 +22,6 @@ module _ {X : Type 0} (old : List X) (from : ℕ) (v : X) where
       ∙ sym (append-assoc front (v ∷ []) (drop (i + 1) old))
       ∙ ap (λ l. l ++ drop (i + 1) old) (append-assoc (take from old) (replicate (i - from) v) (v ∷ []) ∙ ap (λ l. take from old ++ l) (replicate-more (i - from) v ∙ ap (λ k. replicate k v) one))
 
-  pub fill-end : (i : ℕ) (new : List X) → i ≡ length old → new ≡ (take from old ++ replicate (i - from) v) ++ drop i old → new ≡ take from old ++ replicate (length old - from) v
-  fill-end i new all e =
-      e ∙ ap (λ l. (take from old ++ replicate (i - from) v) ++ l) (at-drop-all (λ l. l) old i (omega arith)) ∙ append-nil _ ∙ ap (λ k. take from old ++ replicate (k - from) v) all
-
--- zeros alone
-pub padded-none : {X : Type 0} (z : X) (n k : ℕ) → k ≡ n → replicate k z ≡ padded z n []
-unfolding padded
-padded-none z n k e = ap (λ m. replicate m z) (e ∙ sym (sub-zero n))
-
--- a list in front of zeros
-pub padded-front : {X : Type 0} (z : X) (n k : ℕ) (xs : List X) → k ≡ n → xs ++ drop (length xs) (replicate k z) ≡ padded z n xs
-unfolding padded
-padded-front z n k xs e = ap (λ l. xs ++ l) (drop-replicate (length xs) k z ∙ ap (λ m. replicate (m - length xs) z) e)
-
--- a front that was kept, and zeros written behind it
-pub padded-rest : {X : Type 0} (z : X) (n k : ℕ) (list xs new : List X) → length list ≡ n → k ≤ n → take k list ≡ xs → new ≡ take k list ++ replicate (length list - k) z → new ≡ padded z n xs
-unfolding padded
-padded-rest z n k list xs new long few e h =
-    let count : length xs ≡ k = sym (ap length e) ∙ length-take-le k list (omega arith) in
-    let left : length list - k ≡ n - length xs = omega arith in
-    h ∙ (λ i. e i ++ replicate (left i) z)
+  pub fill-end : (i : ℕ) (new : List X) → length old ≤ i → i - from ≡ length old - from → new ≡ (take from old ++ replicate (i - from) v) ++ drop i old → new ≡ take from old ++ replicate (length old - from) v
+  fill-end i new all same e =
+      e ∙ ap (λ l. (take from old ++ replicate (i - from) v) ++ l) (at-drop-all (λ l. l) old i all) ∙ append-nil _ ∙ ap (λ k. take from old ++ replicate k v) same
