@@ -1,1 +1,4 @@
 mod Holding
+mod Keeping
+mod SeatKinds
+mod Staying

@@ -61,7 +61,7 @@ pub record Exempt (x : Seat) : Type 0 where
   pub asked : x .asked ≡ 0
   pub held : x .held ≡ 0
 
-abbrev sharesBy : Option Class → Bool
+abbrev pub sharesBy : Option Class → Bool
 sharesBy None = false
 sharesBy (Some c) = owed c FundContribution
 
