@@ -1,7 +1,5 @@
-//! Runs a program on day files and holds what it prints against what the reader here expects.
+//! Runs a program on files and holds what it prints against what is expected here.
 
-use crate::dayfile::printed;
-use crate::generate::Files;
 use std::io::{self, Read, Write};
 use std::path::Path;
 use std::process::{Command, Stdio};
@@ -30,10 +28,15 @@ pub struct Outcome {
     pub status: Option<i32>,
 }
 
+/// What a right program prints for the bytes of a file.
+pub type Printed = fn(&[u8]) -> String;
+/// A way to part the bytes of a file, so that parts can be dropped.
+pub type Parting = fn(&[u8]) -> Vec<&[u8]>;
+
 impl Outcome {
-    /// What a right program gives for these bytes.
-    pub fn expected(bytes: &[u8]) -> Self {
-        Outcome { output: printed(bytes).into_bytes(), errors: Vec::new(), status: Some(0) }
+    /// What a right program gives: it prints this, and nothing else.
+    pub fn expected(output: String) -> Self {
+        Outcome { output: output.into_bytes(), errors: Vec::new(), status: Some(0) }
     }
 }
 
@@ -71,7 +74,12 @@ fn all_of(pipe: Option<impl Read>) -> Vec<u8> {
 }
 
 /// The first file, by its number, for which the program differs; none where all agree.
-pub fn first_difference(program: &Path, files: &Files, count: usize) -> io::Result<Option<usize>> {
+pub fn first_difference(
+    program: &Path,
+    printed: Printed,
+    file: impl Fn(usize) -> Vec<u8> + Sync,
+    count: usize,
+) -> io::Result<Option<usize>> {
     let next = AtomicUsize::new(0);
     let first = AtomicUsize::new(count);
     let failure = Mutex::new(None);
@@ -80,9 +88,9 @@ pub fn first_difference(program: &Path, files: &Files, count: usize) -> io::Resu
         if n >= first.load(Ordering::Relaxed) {
             return;
         }
-        let bytes = files.nth(n).bytes;
+        let bytes = file(n);
         match run(program, &bytes) {
-            Ok(outcome) if outcome == Outcome::expected(&bytes) => {}
+            Ok(outcome) if outcome == Outcome::expected(printed(&bytes)) => {}
             Ok(_) => drop(first.fetch_min(n, Ordering::Relaxed)),
             Err(error) => {
                 first.store(0, Ordering::Relaxed);
@@ -102,26 +110,35 @@ pub fn first_difference(program: &Path, files: &Files, count: usize) -> io::Resu
     Ok(Some(first.into_inner()).filter(|n| *n < count))
 }
 
-/// A smaller file for which the program still differs: lines are dropped, then bytes, while that holds.
-pub fn shrunk(program: &Path, bytes: Vec<u8>) -> io::Result<Vec<u8>> {
+/// A smaller file for which the program still differs: parts are dropped, in each way to part, while that holds.
+pub fn shrunk(program: &Path, printed: Printed, partings: &[Parting], bytes: Vec<u8>) -> io::Result<Vec<u8>> {
     let start = Instant::now();
-    let mut differs =
-        |bytes: &[u8]| Ok(start.elapsed() < MOST_TIME && run(program, bytes)? != Outcome::expected(bytes));
-    shrink(bytes, &mut differs, MOST_TRIALS)
+    let mut differs = |bytes: &[u8]| {
+        Ok(start.elapsed() < MOST_TIME && run(program, bytes)? != Outcome::expected(printed(bytes)))
+    };
+    shrink(bytes, partings, &mut differs, MOST_TRIALS)
+}
+
+pub fn by_lines(bytes: &[u8]) -> Vec<&[u8]> {
+    bytes.split_inclusive(|byte| *byte == 10).collect()
+}
+
+pub fn by_bytes(bytes: &[u8]) -> Vec<&[u8]> {
+    bytes.chunks(1).collect()
 }
 
 fn shrink(
     bytes: Vec<u8>,
+    partings: &[Parting],
     differs: &mut dyn FnMut(&[u8]) -> io::Result<bool>,
     mut trials: usize,
 ) -> io::Result<Vec<u8>> {
     let mut smallest = bytes;
     loop {
         let before = smallest.len();
-        let lines = smallest.split_inclusive(|byte| *byte == 10).map(<[u8]>::to_vec).collect();
-        smallest = fewer(lines, differs, &mut trials)?.concat();
-        let single = smallest.iter().map(|byte| vec![*byte]).collect();
-        smallest = fewer(single, differs, &mut trials)?.concat();
+        for parting in partings {
+            smallest = fewer(parting(&smallest), differs, &mut trials)?.concat();
+        }
         if smallest.len() == before || trials == 0 {
             return Ok(smallest);
         }
@@ -129,11 +146,11 @@ fn shrink(
 }
 
 /// Drops runs of parts, long runs first, while what is left still differs.
-fn fewer(
-    mut parts: Vec<Vec<u8>>,
+fn fewer<'b>(
+    mut parts: Vec<&'b [u8]>,
     differs: &mut dyn FnMut(&[u8]) -> io::Result<bool>,
     trials: &mut usize,
-) -> io::Result<Vec<Vec<u8>>> {
+) -> io::Result<Vec<&'b [u8]>> {
     let mut run = parts.len().div_ceil(2);
     while run > 0 {
         let mut at = 0;
@@ -180,7 +197,7 @@ mod tests {
     fn a_file_is_shrunk_to_what_matters() {
         let bytes = b"form=1\nmember=7\nsegment=3\nday=120\nend=77\n".to_vec();
         let mut seen = |bytes: &[u8]| Ok(bytes.windows(3).any(|three| three == b"=77"));
-        assert_eq!(shrink(bytes, &mut seen, 1_000).unwrap(), b"=77");
+        assert_eq!(shrink(bytes, &[by_lines, by_bytes], &mut seen, 1_000).unwrap(), b"=77");
     }
 
     #[test]
@@ -190,7 +207,7 @@ mod tests {
             count += 1;
             Ok(false)
         };
-        assert_eq!(shrink(vec![b'x'; 500], &mut never, 20).unwrap().len(), 500);
+        assert_eq!(shrink(vec![b'x'; 500], &[by_lines, by_bytes], &mut never, 20).unwrap().len(), 500);
         assert_eq!(count, 20);
     }
 

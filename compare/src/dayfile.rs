@@ -237,7 +237,8 @@ impl Line<'_> {
     }
 }
 
-fn unsigned(field: &[u8]) -> Option<i64> {
+/// An unsigned number; none where the field is no such number.
+pub fn unsigned(field: &[u8]) -> Option<i64> {
     let plain = (1..=MOST_DIGITS).contains(&field.len())
         && field.iter().all(u8::is_ascii_digit)
         && (field == b"0" || field[0] != b'0');

@@ -253,7 +253,12 @@ fn losing(random: &mut Random, excess: i64) -> Account {
 
 /// A good day of exactly this many bytes, at least 1,000.
 pub fn sized(random: &mut Random, bytes: usize) -> Day {
-    let mut day = small(random);
+    let day = small(random);
+    grown(random, day, bytes)
+}
+
+/// The day with accounts more, so that it has exactly this many bytes, at least 1,000.
+pub fn grown(random: &mut Random, mut day: Day, bytes: usize) -> Day {
     let mut length = day.bytes().len();
     while length + 500 < bytes {
         let shape = Shape {

@@ -1,7 +1,9 @@
-//! The day files of a seed: a catalogue of cases in an order of the seed's own, and random files between them.
+//! The day files of a seed: a catalogue of cases in an order of the seed's own, and random files between them. Its
+//! journals stand in a part of their own.
 
 pub mod damage;
 pub mod days;
+pub mod journals;
 
 mod catalogue;
 
