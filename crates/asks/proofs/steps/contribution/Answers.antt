@@ -10,19 +10,19 @@ use Rattle.asks.proofs.steps.contribution.Goals as goal
 fits : (F A q m r : ℕ) → F ≤ fund_limit → q ≤ figure_limit → r ≤ (F - A) * (q - m) → r ≤ fund_limit * figure_limit
 fits F A q m r f g h = omega (arith, h, mul-le (F - A) (q - m) fund_limit figure_limit (omega arith) (omega arith))
 
-pub overflow-add-result : goal.overflow-add-result
-overflow-add-result c =
-    let v = c.divided-up.ensures in
+pub overflow_add-result : goal.overflow_add-result
+overflow_add-result c =
+    let v = c.divided_up.ensures in
     let b = up_self ((c.args.size - c.args.least) * (c.args.quota - c.args.minimum)) c.args.above in
-    omega (arith, v, fits c.args.size c.args.least c.args.quota c.args.minimum c.divided-up.result (omega arith) (omega arith) (omega (arith, v, b)))
+    omega (arith, v, fits c.args.size c.args.least c.args.quota c.args.minimum c.divided_up.result (omega arith) (omega arith) (omega (arith, v, b)))
 
 pub returns-then-least-size : goal.returns-then-least-size
 returns-then-least-size c =
-    let v = c.divided-up.ensures in
+    let v = c.divided_up.ensures in
     let b = up_self ((c.args.size - c.args.least) * (c.args.quota - c.args.minimum)) c.args.above in
     record {
       is =
           ap (λ (x : ℕ). c.args.minimum + x) (v ∙ sym (cond-true (ltb c.args.least c.args.size) _ 0 (lt-ltb c.args.least c.args.size c.if-least-size.true)))
           ∙ sym (cond-false (excluded c.args.quota c.args.minimum) c.args.minimum _ (lt-leb c.args.quota c.args.minimum c.if-quota-minimum.false));
-      within = omega (arith, fits c.args.size c.args.least c.args.quota c.args.minimum c.divided-up.result (omega arith) (omega arith) (omega (arith, v, b)));
+      within = omega (arith, fits c.args.size c.args.least c.args.quota c.args.minimum c.divided_up.result (omega arith) (omega arith) (omega (arith, v, b)));
     }

@@ -4,10 +4,10 @@ use Rattle.terms.specs.Limits.{figure_limit, fund_limit}
 use Rattle.asks.proofs.OneMember.{quota_at_most_mean}
 use Rattle.asks.proofs.steps.quota.Goals as goal
 
-pub overflow-mul-size : goal.overflow-mul-size
-overflow-mul-size c = let p = mul-le c.args.size c.args.mean fund_limit figure_limit (omega arith) (omega arith) in omega (arith, p)
+pub overflow_mul-size : goal.overflow_mul-size
+overflow_mul-size c = let p = mul-le c.args.size c.args.mean fund_limit figure_limit (omega arith) (omega arith) in omega (arith, p)
 
 pub returns : goal.returns
 returns c =
-    let v = c.divided-up.ensures in
+    let v = c.divided_up.ensures in
     record { is = v; within = omega (arith, v, quota_at_most_mean c.args.size c.args.total c.args.mean (omega arith)) }

@@ -11,6 +11,6 @@ loop-i-preserved c =
     let mins = c.args.minimums.now in
     let F = c.args.size in
     let i = c.loop-i.i in
-    let e : c.round-up.result ≡ ask_at F mins ms i = ask_is F mins ms i _ _ _ _ _ _ _ c.sum-of-means-total.ensures c.sum-of-minimums-least.ensures c.sum-above-above.ensures c.at.ensures.is c.quota-q.ensures.is c.contribution.ensures.is c.round-up.ensures in
+    let e : c.round_up.result ≡ ask_at F mins ms i = ask_is F mins ms i _ _ _ _ _ _ _ c.sum_of_means-total.ensures c.sum_of_minimums-least.ensures c.sum_above-above.ensures c.at.ensures.is c.quota-q.ensures.is c.contribution.ensures.is c.round_up.ensures in
     let lt : i < length c.loop-i.asks = omega arith in
     subst (λ (x : ℕ). (k : ℕ) → k < i + 1 → get_or (set c.loop-i.asks i x) k 0 ≡ ask_at F mins ms k) (sym e) (fill_by_more (ask_at F mins ms) c.loop-i.asks i 0 lt c.loop-i.invariant)

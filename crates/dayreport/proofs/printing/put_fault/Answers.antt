@@ -12,10 +12,10 @@ returns c =
     let number-long = decimal_long c.number.result (omega arith) in
     let line-long = decimal_long c.line.result (omega arith) in
     let a : Wrote c.args.out.now 0 (codes "refused=") c.put-key.result c.put-key.new.out = wrote _ _ _ _ _ (omega arith) c.put-key.ensures.bytes c.put-key.ensures.place in
-    let b : Wrote c.put-key.new.out c.put-key.result (decimal c.number.result) c.put-number-number.result c.put-number-number.new.out = wrote _ _ _ _ _ (omega (arith, a.place)) c.put-number-number.ensures.bytes c.put-number-number.ensures.place in
-    let d : Wrote c.put-number-number.new.out c.put-number-number.result (codes ",") c.put-comma.result c.put-comma.new.out = wrote _ _ _ _ _ (omega (arith, a.place, b.place)) c.put-comma.ensures.bytes c.put-comma.ensures.place in
-    let e : Wrote c.put-comma.new.out c.put-comma.result (decimal c.line.result) c.put-number-line.result c.put-number-line.new.out = wrote _ _ _ _ _ (omega (arith, a.place, b.place, d.place)) c.put-number-line.ensures.bytes c.put-number-line.ensures.place in
-    let f : Wrote c.put-number-line.new.out c.put-number-line.result (codes ",") c.put-last.result c.put-last.new.out = wrote _ _ _ _ _ (omega (arith, a.place, b.place, d.place, e.place)) c.put-last.ensures.bytes c.put-last.ensures.place in
+    let b : Wrote c.put-key.new.out c.put-key.result (decimal c.number.result) c.put_number-number.result c.put_number-number.new.out = wrote _ _ _ _ _ (omega (arith, a.place)) c.put_number-number.ensures.bytes c.put_number-number.ensures.place in
+    let d : Wrote c.put_number-number.new.out c.put_number-number.result (codes ",") c.put-comma.result c.put-comma.new.out = wrote _ _ _ _ _ (omega (arith, a.place, b.place)) c.put-comma.ensures.bytes c.put-comma.ensures.place in
+    let e : Wrote c.put-comma.new.out c.put-comma.result (decimal c.line.result) c.put_number-line.result c.put_number-line.new.out = wrote _ _ _ _ _ (omega (arith, a.place, b.place, d.place)) c.put_number-line.ensures.bytes c.put_number-line.ensures.place in
+    let f : Wrote c.put_number-line.new.out c.put_number-line.result (codes ",") c.put-last.result c.put-last.new.out = wrote _ _ _ _ _ (omega (arith, a.place, b.place, d.place, e.place)) c.put-last.ensures.bytes c.put-last.ensures.place in
     let g : Wrote c.put-last.new.out c.put-last.result (c.layer.result ∷ 10 ∷ []) c.put.result c.put.new.out = wrote _ _ _ _ _ (omega (arith, a.place, b.place, d.place, e.place, f.place)) c.put.ensures.bytes c.put.ensures.place in
     let text : ℕ → ℕ → ℕ → List ℕ = λ n k l. codes "refused=" ++ (decimal n ++ (codes "," ++ (decimal k ++ (codes "," ++ (l ∷ 10 ∷ []))))) in
     record {

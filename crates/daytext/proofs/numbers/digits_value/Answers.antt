@@ -12,11 +12,11 @@ returns-then-b-lt48 c = record {
   short = tt;
 }
 
-pub overflow-mul-n : goal.overflow-mul-n
-overflow-mul-n c = omega (arith, power_less c.loop-b.n c.loop-b.b-index c.loop-b.invariant.1 (omega arith))
+pub overflow_mul-n : goal.overflow_mul-n
+overflow_mul-n c = omega (arith, power_less c.loop-b.n c.loop-b.b-index c.loop-b.invariant.1 (omega arith))
 
-pub overflow-add-n : goal.overflow-add-n
-overflow-add-n c = omega (arith, power_less c.loop-b.n c.loop-b.b-index c.loop-b.invariant.1 (omega arith))
+pub overflow_add-n : goal.overflow_add-n
+overflow_add-n c = omega (arith, power_less c.loop-b.n c.loop-b.b-index c.loop-b.invariant.1 (omega arith))
 
 pub loop-b-preserved : goal.loop-b-preserved
 loop-b-preserved c = (digits_step c.loop-b.n c.args.text.now c.loop-b.b-index (omega arith) (omega arith) (omega arith) ∙ c.loop-b.invariant.0, power_step c.loop-b.n (get_or c.args.text.now c.loop-b.b-index 0 - 48) c.loop-b.b-index c.loop-b.invariant.1 (omega arith))

@@ -5,8 +5,8 @@ use Rattle.daytext.proofs.write.digits_of.Goals as goal
 pub loop-rest-init : goal.loop-rest-init
 loop-rest-init c = sofar_none c.args.n (replicate 20 48) (omega arith) refl
 
-pub overflow-sub-first : goal.overflow-sub-first
-overflow-sub-first c = sofar_room c.loop-rest.first c.loop-rest.rest c.loop-rest-test.true c.loop-rest.invariant
+pub overflow_sub-first : goal.overflow_sub-first
+overflow_sub-first c = sofar_room c.loop-rest.first c.loop-rest.rest c.loop-rest-test.true c.loop-rest.invariant
 
 pub loop-rest-preserved : goal.loop-rest-preserved
 loop-rest-preserved c = sofar_more c.args.n c.loop-rest.digits c.loop-rest.first c.loop-rest.rest c.loop-rest-test.true c.loop-rest.invariant

@@ -4,6 +4,6 @@ use Rattle.daytext.proofs.write.put.Goals as goal
 
 pub returns : goal.returns
 returns c = record {
-  bytes = laid_part c.args.out.now c.args.at _ c.copy-from-slice.new.self c.args.text.now (omega arith) (omega arith) c.copy-from-slice.ensures.after;
+  bytes = laid_part c.args.out.now c.args.at _ c.copy_from_slice.new.self c.args.text.now (omega arith) (omega arith) c.copy_from_slice.ensures.after;
   place = sym (behind_over c.args.out.now c.args.at c.args.text.now (omega arith));
 }

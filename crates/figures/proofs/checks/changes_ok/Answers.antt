@@ -10,5 +10,5 @@ loop-c-preserved c = every_step change_ok c.args.sheet.now c.loop-c.c-index c.lo
 pub returns : goal.returns
 returns c = every_end change_ok c.args.sheet.now c.loop-c.c-index c.loop-c.invariant (omega arith)
 
-pub returns-then-not-change-ok : goal.returns-then-not-change-ok
-returns-then-not-change-ok c = every_stop change_ok c.args.sheet.now c.loop-c.c-index c.loop-c.invariant (pos 0) (omega arith) (let f : SFits w32 (get_or c.args.sheet.now c.loop-c.c-index (pos 0)) = search rules in grind (arith, to_z-of_z))
+pub returns-then-not-change_ok : goal.returns-then-not-change_ok
+returns-then-not-change_ok c = every_stop change_ok c.args.sheet.now c.loop-c.c-index c.loop-c.invariant (pos 0) (omega arith) (let f : SFits w32 (get_or c.args.sheet.now c.loop-c.c-index (pos 0)) = search rules in grind (arith, to_z-of_z))

@@ -10,5 +10,5 @@ loop-p-preserved c = every_step (position_ok c.args.assets) c.args.positions.now
 pub returns : goal.returns
 returns c = every_end (position_ok c.args.assets) c.args.positions.now c.loop-p.p-index c.loop-p.invariant (omega arith)
 
-pub returns-then-not-position-ok : goal.returns-then-not-position-ok
-returns-then-not-position-ok c = every_stop (position_ok c.args.assets) c.args.positions.now c.loop-p.p-index c.loop-p.invariant (record { asset = 0; quantity = pos 0 }) (omega arith) (sym c.position-ok.ensures ∙ c.if-not-position-ok.true)
+pub returns-then-not-position_ok : goal.returns-then-not-position_ok
+returns-then-not-position_ok c = every_stop (position_ok c.args.assets) c.args.positions.now c.loop-p.p-index c.loop-p.invariant (record { asset = 0; quantity = pos 0 }) (omega arith) (sym c.position_ok.ensures ∙ c.if-not-position_ok.true)

@@ -6,9 +6,9 @@ use Rattle.figures.proofs.Elements.{every_holds}
 use Rattle.figures.proofs.Raising.{raised_stop, raised_all}
 use Rattle.figures.proofs.columns.raise.Goals as goal
 
-pub returns-then-new-gt-COLUMN-LIMIT : goal.returns-then-new-gt-COLUMN-LIMIT
-returns-then-new-gt-COLUMN-LIMIT c =
-    let fg : SFits w64 c.gain-g.result = record { sfits = c.gain-g.type-inv } in
+pub returns-then-new-gt-COLUMN_LIMIT : goal.returns-then-new-gt-COLUMN_LIMIT
+returns-then-new-gt-COLUMN_LIMIT c =
+    let fg : SFits w64 c.gain-g.result = record { sfits = c.gain-g.type_inv } in
     let e1 = simp to_z-of_z at c.excess-e.ensures.is in
     let e2 : c.excess-e.result ≡ excess_of (loss_in c.args.sheet.now c.args.scenarios c.loop-j.j c.args.positions.now) c.args.offset = e1 ∙ ap (λ z. excess_of (neg_ℤ z) c.args.offset) c.gain-g.ensures.is in
     let old = c.loop-j.invariant.1 c.loop-j.j (omega arith) in

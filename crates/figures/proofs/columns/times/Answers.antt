@@ -3,8 +3,8 @@ use Rattle.std.proofs.lemmas.Int.{to_z-of_z}
 use Rattle.figures.proofs.Sizes.{product_small, fits64}
 use Rattle.figures.proofs.columns.times.Goals as goal
 
-pub overflow-mul-result : goal.overflow-mul-result
-overflow-mul-result c =
+pub overflow_mul-result : goal.overflow_mul-result
+overflow_mul-result c =
     let fq = c.ranges.q in
     let fc = c.ranges.c in
     simp to_z-of_z (fits64 (c.args.q *ℤ c.args.c) (omega (arith, product_small c.args.q c.args.c c.requires.0 c.requires.1)))

@@ -10,12 +10,17 @@ returns-then-not-raise c =
     let fits : c.raise.result ≡ every column_ok (new (offset_of c.args.account)) = c.raise.ensures.fits ∙ ap (λ o. every column_ok (new o)) c.offset.ensures in
     record {
       refusal = last_fails (sheet_ok c.args.self.now.scenarios c.args.sheet.now) (positions_ok (assets_of c.args.self.now.scenarios c.args.sheet.now) c.args.positions.now) (margins_ok c.args.account) (every column_ok (new (offset_of c.args.account))) Sheet Positions Margin Column
-          (sym c.sheet-ok.ensures ∙ c.if-not-sheet-ok.false) (sym c.positions-ok.ensures ∙ c.if-not-positions-ok.false) (sym c.margins-ok.ensures ∙ c.if-not-margins-ok.false) (sym fits ∙ c.if-not-raise.true);
+          (sym c.sheet_ok.ensures ∙ c.if-not-sheet_ok.false) (sym c.positions_ok.ensures ∙ c.if-not-positions_ok.false) (sym c.margins_ok.ensures ∙ c.if-not-margins_ok.false) (sym fits ∙ c.if-not-raise.true);
       after = record { closing = refl; scenarios = refl; columns = refl };
     }
 
-pub invariant-of-self : goal.invariant-of-self
-invariant-of-self c = (c.args.self.now.counts, (omega arith, (c.raise.ensures.small, (λ k h. c.raise.ensures.past k h ∙ c.args.self.now.unused k h, tt))))
+pub invariant_of-self : goal.invariant_of-self
+invariant_of-self c = record {
+  counts = c.args.self.now.counts;
+  long = omega arith;
+  small = c.raise.ensures.small;
+  unused = λ k h. c.raise.ensures.past k h ∙ c.args.self.now.unused k h;
+}
 
 pub returns : goal.returns
 returns c =
@@ -23,6 +28,6 @@ returns c =
     let fits : c.raise.result ≡ every column_ok (new (offset_of c.args.account)) = c.raise.ensures.fits ∙ ap (λ o. every column_ok (new o)) c.offset.ensures in
     record {
       refusal = none_fails (sheet_ok c.args.self.now.scenarios c.args.sheet.now) (positions_ok (assets_of c.args.self.now.scenarios c.args.sheet.now) c.args.positions.now) (margins_ok c.args.account) (every column_ok (new (offset_of c.args.account))) Sheet Positions Margin Column
-          (sym c.sheet-ok.ensures ∙ c.if-not-sheet-ok.false) (sym c.positions-ok.ensures ∙ c.if-not-positions-ok.false) (sym c.margins-ok.ensures ∙ c.if-not-margins-ok.false) (sym fits ∙ c.if-not-raise.false);
+          (sym c.sheet_ok.ensures ∙ c.if-not-sheet_ok.false) (sym c.positions_ok.ensures ∙ c.if-not-positions_ok.false) (sym c.margins_ok.ensures ∙ c.if-not-margins_ok.false) (sym fits ∙ c.if-not-raise.false);
       after = record { closing = refl; scenarios = refl; columns = c.raise.ensures.is c.if-not-raise.false ∙ ap new c.offset.ensures };
     }
