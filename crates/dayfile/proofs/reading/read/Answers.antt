@@ -6,9 +6,9 @@ use Rattle.dayfile.proofs.Padding.{padded_rest}
 use Rattle.dayfile.proofs.Outcomes.{lengths_bad, read_good, read_bad, exactly}
 use Rattle.dayfile.proofs.reading.read.Goals as goal
 
-pub returns-then-not-lengths-ok : goal.returns-then-not-lengths-ok
-returns-then-not-lengths-ok c =
-    let off = sym c.if-not-lengths-ok.ensures in
+pub returns-then-not-lengths_ok : goal.returns-then-not-lengths_ok
+returns-then-not-lengths_ok c =
+    let off = sym c.if-not-lengths_ok.ensures in
     record {
       outcome = lengths_bad c.args.bytes.now c.args.changes.now c.args.positions.now off;
       exactly = λ on. absurd (true≢false (sym on ∙ off));
@@ -16,13 +16,13 @@ returns-then-not-lengths-ok c =
 
 pub returns-in-Ok : goal.returns-in-Ok
 returns-in-Ok c =
-    let on = sym c.if-not-lengths-ok.ensures in
+    let on = sym c.if-not-lengths_ok.ensures in
     let o = read_good c.args.bytes.now c.args.changes.now c.args.positions.now on c.in-Ok.figure c.day.new.changes c.day.new.positions c.in-Ok.ensures in
     record { outcome = o; exactly = λ _. exactly c.args.bytes.now c.args.changes.now c.args.positions.now on _ _ _ o }
 
 pub returns-in-Err : goal.returns-in-Err
 returns-in-Err c =
-    let on = sym c.if-not-lengths-ok.ensures in
+    let on = sym c.if-not-lengths_ok.ensures in
     let l = and_parts (eqb (length c.args.changes.now) most_changes) (eqb (length c.args.positions.now) most_positions) on in
     let a = eqb-true (length c.args.changes.now) most_changes l.0 in
     let b = eqb-true (length c.args.positions.now) most_positions l.1 in

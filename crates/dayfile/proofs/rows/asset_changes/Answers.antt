@@ -9,8 +9,8 @@ use Rattle.dayfile.proofs.rows.asset_changes.Goals as goal
 pub loop-z-init : goal.loop-z-init
 loop-z-init c = ([], row_start c.args.text.now c.args.out.now c.args.at c.args.scenarios c.requires)
 
-pub returns-in-default : goal.returns-in-default
-returns-in-default c = row_bad c.args.text.now c.args.out.now c.args.at c.args.scenarios c.loop-z.rest.now c.loop-z.out c.loop-z.k c.loop-z.ranged c.loop-z.invariant.0 c.loop-z.invariant.1 c.upto-m.result c.upto-m.ensures.is c.upto-m.ensures.within c.args.n c.in-default.ensures.is
+pub returns-in_default : goal.returns-in_default
+returns-in_default c = row_bad c.args.text.now c.args.out.now c.args.at c.args.scenarios c.loop-z.rest.now c.loop-z.out c.loop-z.k c.loop-z.ranged c.loop-z.invariant.0 c.loop-z.invariant.1 c.upto-m.result c.upto-m.ensures.is c.upto-m.ensures.within c.args.n c.in_default.ensures.is
 
 pub returns-then-m-rest : goal.returns-then-m-rest
 returns-then-m-rest c =

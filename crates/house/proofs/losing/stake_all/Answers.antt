@@ -16,12 +16,12 @@ loop-m-preserved c =
     let s = c.args.segment in
     let d = c.args.member in
     let m = c.loop-m.m in
-    let at : c.place-of.result ≡ place (m + 1) s = c.place-of.ensures.is in
+    let at : c.place_of.result ≡ place (m + 1) s = c.place_of.ensures.is in
     let lt : m < length c.loop-m.stakes = omega arith in
     rows_more no_stake (λ j. record { held = stake_of (holders_in t s) d j }) c.loop-m.stakes m _ lt c.loop-m.invariant
     (ap (λ (h : ℕ). record { held = h })
     (c.stake.ensures
-    ∙ ap (λ (b : Bool). cond (b && not (eqb (m + 1) d)) (get_or t c.place-of.result no_seat).held 0) c.shares-in.ensures
+    ∙ ap (λ (b : Bool). cond (b && not (eqb (m + 1) d)) (get_or t c.place_of.result no_seat).held 0) c.shares_in.ensures
     ∙ ap (λ (i : ℕ). cond (shares (get_or t i no_seat).class && not (eqb (m + 1) d)) (get_or t i no_seat).held 0) at))
 
 pub returns : goal.returns

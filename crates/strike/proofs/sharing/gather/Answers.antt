@@ -9,7 +9,7 @@ use Rattle.strike.specs.Strike.{members_in}
 use Rattle.strike.proofs.Gathering.{column_no, column_none, column_yes, small_kept, small_more}
 use Rattle.strike.proofs.Listing.{count_no, count_none, count_yes}
 use Rattle.strike.proofs.sharing.gather.Goals as goal
-use Rattle.strike.proofs.sharing.gather.Goals.{then-shares-in, else-shares-in}
+use Rattle.strike.proofs.sharing.gather.Goals.{then-shares_in, else-shares_in}
 
 pub loop-m-init : goal.loop-m-init
 loop-m-init c =
@@ -24,30 +24,30 @@ loop-m-preserved c =
     let n = c.loop-m.n in
     let x = members_in t s in
     let seat = seat_at t (m + 1) s in
-    let at : c.place-of.result ≡ place (m + 1) s = c.place-of.ensures.is in
+    let at : c.place_of.result ≡ place (m + 1) s = c.place_of.ensures.is in
     let inv = c.loop-m.invariant in
-    elim c.if-shares-in.branch [
-      | then-shares-in w ↦
-          let yes : x.shares (m + 1) ≡ true = sym (w.if-shares-in.ensures ∙ ap (λ (i : ℕ). shares (get_or t i no_seat).class) at) in
+    elim c.if-shares_in.branch [
+      | then-shares_in w ↦
+          let yes : x.shares (m + 1) ≡ true = sym (w.if-shares_in.ensures ∙ ap (λ (i : ℕ). shares (get_or t i no_seat).class) at) in
           let mean : w.mean.result ≡ x.mean (m + 1) = w.mean.ensures ∙ ap (λ (i : ℕ). mean_of (get_or t i no_seat)) at in
-          let least : (get_or t c.place-of.result no_seat).minimum ≡ x.minimum (m + 1) = ap (λ (i : ℕ). (get_or t i no_seat).minimum) at in
+          let least : (get_or t c.place_of.result no_seat).minimum ≡ x.minimum (m + 1) = ap (λ (i : ℕ). (get_or t i no_seat).minimum) at in
           let sound : Sound seat = c.requires.sound (place (m + 1) s) (omega (arith, c.requires.long, c.requires.segment.0, c.requires.segment.1)) in
           let lt : n < length c.loop-m.means = omega arith in
           let lt2 : n < length c.loop-m.minimums = omega arith in (
-            omega (arith, w.n_is),
-            w.n_is ∙ ap (λ (k : ℕ). k + 1) inv.1 ∙ sym (count_yes x.shares m yes),
-            column_yes x.shares x.mean m n c.if-shares-in.n w.mean.result c.loop-m.means c.if-shares-in.means yes lt inv.2 w.n_is w.means-is mean,
-            column_yes x.shares x.minimum m n c.if-shares-in.n _ c.loop-m.minimums c.if-shares-in.minimums yes lt2 inv.3 w.n_is w.minimums-is least,
-            small_more figure_limit c.loop-m.means c.if-shares-in.means n c.if-shares-in.n w.mean.result lt inv.4 w.n_is w.means-is (omega (arith, mean, up_mean seat.sum seat.days figure_limit sound.ranged.sum)),
-            small_more minimum_limit c.loop-m.minimums c.if-shares-in.minimums n c.if-shares-in.n _ lt2 inv.5 w.n_is w.minimums-is (omega (arith, least, (sharing_back seat sound.kind yes).minimum.1)),
+            omega (arith, w.n-is),
+            w.n-is ∙ ap (λ (k : ℕ). k + 1) inv.1 ∙ sym (count_yes x.shares m yes),
+            column_yes x.shares x.mean m n c.if-shares_in.n w.mean.result c.loop-m.means c.if-shares_in.means yes lt inv.2 w.n-is w.means-is mean,
+            column_yes x.shares x.minimum m n c.if-shares_in.n _ c.loop-m.minimums c.if-shares_in.minimums yes lt2 inv.3 w.n-is w.minimums-is least,
+            small_more figure_limit c.loop-m.means c.if-shares_in.means n c.if-shares_in.n w.mean.result lt inv.4 w.n-is w.means-is (omega (arith, mean, up_mean seat.sum seat.days figure_limit sound.ranged.sum)),
+            small_more minimum_limit c.loop-m.minimums c.if-shares_in.minimums n c.if-shares_in.n _ lt2 inv.5 w.n-is w.minimums-is (omega (arith, least, (sharing_back seat sound.kind yes).minimum.1)),
           )
-      | else-shares-in w ↦
-          let no' : x.shares (m + 1) ≡ false = sym (w.if-shares-in.ensures ∙ ap (λ (i : ℕ). shares (get_or t i no_seat).class) at) in (
-            omega (arith, w.n_is),
-            w.n_is ∙ inv.1 ∙ sym (count_no x.shares m no'),
-            column_no x.shares x.mean m n c.if-shares-in.n c.loop-m.means c.if-shares-in.means no' inv.2 w.n_is w.means-is,
-            column_no x.shares x.minimum m n c.if-shares-in.n c.loop-m.minimums c.if-shares-in.minimums no' inv.3 w.n_is w.minimums-is,
-            small_kept figure_limit c.loop-m.means c.if-shares-in.means n c.if-shares-in.n inv.4 w.n_is w.means-is,
-            small_kept minimum_limit c.loop-m.minimums c.if-shares-in.minimums n c.if-shares-in.n inv.5 w.n_is w.minimums-is,
+      | else-shares_in w ↦
+          let no' : x.shares (m + 1) ≡ false = sym (w.if-shares_in.ensures ∙ ap (λ (i : ℕ). shares (get_or t i no_seat).class) at) in (
+            omega (arith, w.n-is),
+            w.n-is ∙ inv.1 ∙ sym (count_no x.shares m no'),
+            column_no x.shares x.mean m n c.if-shares_in.n c.loop-m.means c.if-shares_in.means no' inv.2 w.n-is w.means-is,
+            column_no x.shares x.minimum m n c.if-shares_in.n c.loop-m.minimums c.if-shares_in.minimums no' inv.3 w.n-is w.minimums-is,
+            small_kept figure_limit c.loop-m.means c.if-shares_in.means n c.if-shares_in.n inv.4 w.n-is w.means-is,
+            small_kept minimum_limit c.loop-m.minimums c.if-shares_in.minimums n c.if-shares_in.n inv.5 w.n-is w.minimums-is,
           )
     ]
