@@ -1,5 +1,5 @@
 -- Contrary positions as weights. Assumes nothing.
-use Rattle.std.proofs.Common.{◌≡◌, ℕ, zero, suc, ◌*◌, ◌<◌, ◌≤◌, List, map, length, get_or, take, ℤ, pos, negsuc, nat_abs, sym, refl, ap, ◌∙◌, arith}
+use Rattle.std.proofs.Common.{◌≡◌, ℕ, zero, suc, ◌<◌, ◌≤◌, List, map, length, get_or, take, ℤ, pos, negsuc, nat_abs, sym, refl, ap, ◌∙◌, arith}
 use Rattle.std.proofs.lemmas.List.{ext_get_or, get_or-map, get_or-take, length-map, length-take-le}
 use Rattle.terms.specs.Limits.{most_positions, quantity_limit, split_limit}
 use Rattle.terms.specs.Sums.{sum_to}

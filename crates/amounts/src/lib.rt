@@ -1,4 +1,6 @@
 // Amounts asked beside the fund, and closing out.
+#![tactic(auto)]
+
 pub mod closing;
 pub mod contrary;
 pub mod given;

@@ -1,5 +1,5 @@
 -- The four steps, one member at a time. Assumes nothing.
-use Rattle.std.proofs.Common.{◌≡◌, ℕ, zero, suc, ◌+◌, ◌-◌, ◌*◌, ◌<◌, ◌≤◌, max, cond, ltb, leb, List, get_or, refl, ap, ◌∙◌, mul-le-mul_right, mul_comm, mul-zero, arith}
+use Rattle.std.proofs.Common.{◌≡◌, ℕ, zero, suc, ◌+◌, ◌-◌, ◌*◌, ◌≤◌, ltb, List, get_or, refl, ap, ◌∙◌, mul-le-mul_right, mul_comm, mul-zero, arith}
 use Rattle.std.proofs.lemmas.Bool.{cond_both, leb-true}
 use Rattle.terms.specs.Rounding.{up}
 use Rattle.terms.proofs.Dividing.{up_by_zero, up_least, up_of_zero}

@@ -1,4 +1,6 @@
 // What is asked of the members of a segment for a fund of a given size, over lists of minimums and means; no tables.
+#![tactic(auto)]
+
 pub mod clause;
 mod steps;
 pub mod within;

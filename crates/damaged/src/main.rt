@@ -1,5 +1,7 @@
 // Many day files in one input, each ended by `==` and byte 10: prints the report of each. A table of damaged files and
 // what is told of them stands beside it.
+#![tactic(auto)]
+
 ghost use Rattle.std.specs.Prelude.{◌<◌, length, IfSome};
 
 use dayfile::read;

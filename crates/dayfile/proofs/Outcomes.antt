@@ -16,7 +16,7 @@ use Rattle.dayreport.specs.declared.faults.Fault.{Fault}
 use Rattle.dayreport.specs.declared.faults.Fault.TheVariants.{Line}
 use Rattle.dayfile.specs.declared.head.Head.{Head}
 use Rattle.dayfile.specs.Days.{Day, Entry, Good, Rule, figure_of, flat, taking, tallied, written, zeros}
-use Rattle.dayfile.specs.Reading.{◌>>=◌, ◌>>◌, file, head_read, headed, lines_read, reading, run, sheet_read}
+use Rattle.dayfile.specs.Reading.{◌>>=◌, ◌>>◌, head_read, headed, lines_read, reading, run, sheet_read}
 use Rattle.dayfile.specs.Outcome.{DayRead, Exactly, Outcome, answer_of, changes_after, figured, lengths_ok, nothing_held, padded, positions_after}
 use Rattle.dayfile.specs.Seen.{BodyRead, SheetRead, last_of}
 use Rattle.dayfile.proofs.Files.{day_back, day_once, day_only}

@@ -1,4 +1,6 @@
 // A member's day file: its bytes are read into a figure, or the first fault is told.
+#![tactic(auto)]
+
 mod body;
 mod fields;
 mod head;

@@ -1,4 +1,6 @@
 // What is told of a day file, a figure or the first fault, and the bytes that are printed of it.
+#![tactic(auto)]
+
 pub mod faults;
 mod printing;
 mod reports;

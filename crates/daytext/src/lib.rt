@@ -1,4 +1,5 @@
 // The text of a file of lines `key=value,value`: parts are found, whole numbers read, and text written over bytes.
+#![tactic(auto)]
 
 pub mod numbers;
 pub mod parts;

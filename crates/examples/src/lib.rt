@@ -1,4 +1,5 @@
 // Examples worked by hand, shown of the definitions.
+#![tactic(auto)]
 
 ghost use Rattle.examples.specs.Worked.{Right, worked};
 

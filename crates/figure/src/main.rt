@@ -1,4 +1,6 @@
 // Reads a day file from standard input and prints its figure or its first fault.
+#![tactic(auto)]
+
 use dayfile::read;
 use dayreport::report;
 use figures::Position;

@@ -1,5 +1,7 @@
 // From a member's accounts to its stress figure: a heading opens a tally, a tally takes accounts and is struck, and a
 // struck figure is read and set aside.
+#![tactic(auto)]
+
 mod checks;
 mod columns;
 mod kinds;

@@ -1,8 +1,8 @@
 -- What one seat holds is part of what its segment holds. Assumes nothing.
-use Rattle.std.proofs.Common.{◌≡◌, ℕ, ◌+◌, ◌-◌, ◌≤◌, List, get_or, ap, arith}
+use Rattle.std.proofs.Common.{◌≡◌, ℕ, ◌+◌, ◌-◌, ◌≤◌, List, ap, arith}
 use Rattle.terms.specs.Limits.{last_member}
 use Rattle.terms.proofs.Adding.{at_le_sum_to}
-use Rattle.tables.specs.Book.{IsMember, held_in, no_seat, seat_at}
+use Rattle.tables.specs.Book.{IsMember, held_in, seat_at}
 use Rattle.tables.specs.declared.records.Seat.{Seat}
 
 pub seat_within : (t : List Seat) (m s : ℕ) → IsMember m → (seat_at t m s).held ≤ held_in t s

@@ -1,8 +1,7 @@
 -- A book in which one seat is written is a book still. Assumes nothing.
-use Rattle.std.proofs.Common.{◌≡◌, ℕ, ◌+◌, ◌-◌, ◌<◌, ◌≤◌, List, length, get_or, set, sym, refl, ap, ◌∙◌, subst, ⊎_elim, arith, length-set, get_or-set_other, get_or-set_same}
+use Rattle.std.proofs.Common.{◌≡◌, ℕ, ◌+◌, ◌-◌, ◌<◌, ◌≤◌, List, length, get_or, sym, ap, ◌∙◌, subst, ⊎_elim, arith, length-set, get_or-set_other, get_or-set_same}
 use Rattle.std.proofs.lemmas.Bool.{cases_eq}
 use Rattle.terms.specs.Limits.{all_seats, held_limit, last_member}
-use Rattle.terms.specs.Sums.{sum_to}
 use Rattle.terms.proofs.Adding.{sum_to_changed, sum_to_same}
 use Rattle.tables.specs.Book.{Book, IsMember, IsSegment, OneClass, Sound, held_in, no_seat, place, seat_at}
 use Rattle.tables.specs.declared.records.Pledges.{Pledges}

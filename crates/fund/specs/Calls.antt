@@ -1,5 +1,5 @@
 -- The calls on the fund book: what each wants, in order, and what it leaves.
-use Rattle.std.specs.Prelude.{◌≡◌, ℕ, ◌+◌, ◌-◌, ◌<◌, ◌≤◌, true, List, [], ◌∷◌, length, replicate, is_some, Ok, Err, MatchBool, Result, slice_set}
+use Rattle.std.specs.Prelude.{◌≡◌, ℕ, ◌+◌, ◌-◌, ◌<◌, ◌≤◌, true, List, [], ◌∷◌, length, replicate, is_some, MatchBool, Result, slice_set}
 use Rattle.terms.specs.Classes.{class_of}
 use Rattle.terms.specs.Limits.{all_pledges, all_seats, amount_limit, held_limit, minimum_limit, most_days}
 use Rattle.terms.specs.Refusing.{Judged, Wants}

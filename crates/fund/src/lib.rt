@@ -1,4 +1,6 @@
 // The calls on the fund book. Each is judged by the tables and its inputs; a refused call changes nothing.
+#![tactic(auto)]
+
 pub mod booking;
 mod checks;
 pub mod laws;

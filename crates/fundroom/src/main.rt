@@ -1,4 +1,5 @@
 // Plays a journal of the fund book from standard input, and prints an answer for each entry.
+#![tactic(auto)]
 
 use dayfile::read;
 use dayreport::report;

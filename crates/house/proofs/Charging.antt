@@ -1,8 +1,7 @@
 -- The charges of a loss, member by member. Assumes nothing.
-use Rattle.std.proofs.Common.{◌≡◌, ℕ, ◌+◌, ◌-◌, ◌*◌, ◌<◌, ◌≤◌, min, Bool, true, false, cond, not, ◌&&◌, eqb, List, length, sym, refl, ap, ◌∙◌, subst, ⊎_elim, arith}
+use Rattle.std.proofs.Common.{◌≡◌, ℕ, ◌+◌, ◌-◌, ◌*◌, ◌≤◌, true, false, cond, not, eqb, List, sym, refl, ap, ◌∙◌, subst, ⊎_elim, arith}
 use Rattle.std.proofs.lemmas.Bool.{and_from, and_left, and_parts, and_right, cases_Bool, cases_eq, cond_both, cond-false, cond-true, eq-eqb, eqb-false, ne_eqb, not_from_false, not_from_true, not-true}
 use Rattle.terms.specs.Limits.{last_member}
-use Rattle.terms.specs.Sums.{sum_to}
 use Rattle.terms.proofs.Adding.{sum_to_changed, sum_to_same}
 use Rattle.share.specs.Split.{part_by}
 use Rattle.share.proofs.Cuts.{in_proportion, part_le}

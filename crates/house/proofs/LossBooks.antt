@@ -1,5 +1,5 @@
 -- A loss leaves a book that holds so much less. Assumes nothing.
-use Rattle.std.proofs.Common.{◌≡◌, ℕ, ◌+◌, ◌-◌, ◌<◌, ◌≤◌, true, false, List, sym, refl, ap, ◌∙◌, ⊎_elim, arith}
+use Rattle.std.proofs.Common.{◌≡◌, ℕ, ◌+◌, ◌-◌, true, false, List, refl, ap, ◌∙◌, ⊎_elim, arith}
 use Rattle.std.proofs.lemmas.Bool.{cases_Bool, cases_eq}
 use Rattle.terms.specs.Limits.{last_member}
 use Rattle.terms.specs.Sums.{sum_to}
@@ -9,7 +9,6 @@ use Rattle.tables.specs.declared.records.Pledges.{Pledges}
 use Rattle.tables.specs.declared.records.Seat.{Seat}
 use Rattle.tables.proofs.SeatKinds.{empty_back, exempt_back, kind_empty, kind_exempt, kind_sharing, known_back, sharing_back}
 use Rattle.tables.proofs.Segments.{held_here, written_book}
-use Rattle.house.specs.Holders.{over_members}
 use Rattle.house.specs.Loss.{charged_all, charged_by, holders_in}
 use Rattle.house.specs.Promises.{ChargesFair}
 use Rattle.house.specs.Rows.{charge_in}

@@ -1,5 +1,5 @@
 -- The stakes of a loss as records with a weight, and the list that the split writes. Assumes nothing.
-use Rattle.std.proofs.Common.{◌≡◌, ℕ, ◌+◌, ◌-◌, ◌<◌, ◌≤◌, cond, eqb, List, map, length, get_or, set, sym, refl, ap, ◌∙◌, ⊎_elim, arith, length-set, get_or-set_other, get_or-set_same}
+use Rattle.std.proofs.Common.{◌≡◌, ℕ, ◌+◌, ◌-◌, ◌<◌, eqb, List, map, length, get_or, set, sym, ap, ◌∙◌, ⊎_elim, arith, length-set, get_or-set_other, get_or-set_same}
 use Rattle.std.proofs.lemmas.List.{get_or-map, length-map}
 use Rattle.std.proofs.lemmas.Bool.{cases_eq, cond-true, cond-false, eq-eqb, ne_eqb}
 use Rattle.terms.specs.Limits.{all_members, last_member}
@@ -8,9 +8,9 @@ use Rattle.terms.proofs.Adding.{sum_to_same}
 use Rattle.share.specs.Split.{cut, part_at, part_by, weight_in}
 use Rattle.tables.specs.Book.{IsMember}
 use Rattle.house.specs.declared.stakes.Stake.{Stake}
-use Rattle.house.specs.Holders.{Holders, charge_of, own_of, stake_of}
+use Rattle.house.specs.Holders.{Holders, own_of, stake_of}
 use Rattle.house.specs.Promises.{stakes_of}
-use Rattle.house.specs.Rows.{Charged, charge_in}
+use Rattle.house.specs.Rows.{Charged}
 use Rattle.house.specs.Staked.{no_stake, stake_in}
 
 -- the split looks at the weights below n alone

@@ -1,4 +1,6 @@
 // A default in a house: losses charged to a segment, pledges and releases.
+#![tactic(auto)]
+
 pub mod kinds;
 pub mod losing;
 pub mod pledging;

@@ -1,4 +1,6 @@
 // A sizing rule that a house brings itself, and strikes by it: nothing of the strike is proved again.
+#![tactic(auto)]
+
 mod rule;
 
 use rule::MarkAll;

@@ -1,4 +1,6 @@
 // A journal: the book's whole life as text, one call a line, a day file standing in it as it is.
+#![tactic(auto)]
+
 pub mod days;
 pub mod entries;
 

@@ -1,11 +1,10 @@
 -- The proportional split: its laws, over any weights, and the turns of its loops. Assumes nothing.
-use Rattle.std.proofs.Common.{◌≡◌, ℕ, zero, suc, ◌+◌, ◌-◌, ◌*◌, ◌/◌, ◌<◌, ◌≤◌, List, map, length, get_or, sym, refl, ap, ◌∙◌, subst, ⊎_elim, mul-le-mul_right, mul_comm, add-mul, lt_of_mul-lt-mul_right, mul-le-mul_left, mul-add, div-mul-le_self, le_of_mul-le-mul_right, arith}
+use Rattle.std.proofs.Common.{◌≡◌, ℕ, zero, suc, ◌+◌, ◌-◌, ◌*◌, ◌<◌, ◌≤◌, List, map, length, get_or, sym, ap, ◌∙◌, subst, mul-le-mul_right, mul_comm, add-mul, mul-le-mul_left, mul-add, div-mul-le_self, arith}
 use native.Mathlib.Nat.{div-zero, lt-div-mul-add}
 use Rattle.std.proofs.lemmas.Nat.{le-div, div_below}
 use Rattle.std.proofs.lemmas.List.{get_or-map, length-map}
-use Rattle.std.proofs.lemmas.Bool.{cases_lt}
 use Rattle.terms.specs.Sums.{sum_to}
-use Rattle.share.specs.Split.{InProportion, SplitInProportion, cut, part_at, part_by, weight_in}
+use Rattle.share.specs.Split.{SplitInProportion, cut, part_at, part_by, weight_in}
 use Rattle.terms.proofs.Adding.{sum_to_more, sum_to_mono, sum_to_none, sum_to_suc}
 
 -- the cut of a larger weight is no smaller

@@ -1,4 +1,6 @@
 // The proportional split of a total over records with a weight.
+#![tactic(auto)]
+
 pub mod laws;
 pub mod weights;
 pub mod within;

@@ -1,7 +1,7 @@
 -- What the two rules mark is the first largest, and among the rest the first largest. Assumes nothing.
-use Rattle.std.proofs.Common.{◌≡◌, ℕ, suc, ◌+◌, ◌<◌, ◌≤◌, Bool, true, false, cond, not, ◌&&◌, ◌||◌, eqb, ltb, ◌⊎◌, List, [], ◌∷◌, length, get_or, sym, refl, ap, ◌∙◌, subst, inl, inr, ⊎_elim, add-zero, zero-add, arith}
+use Rattle.std.proofs.Common.{◌≡◌, ℕ, suc, ◌+◌, ◌<◌, ◌≤◌, Bool, true, cond, not, ◌&&◌, ◌||◌, eqb, ltb, List, [], ◌∷◌, length, get_or, sym, refl, ap, ◌∙◌, subst, inl, inr, ⊎_elim, add-zero, zero-add, arith}
 use Rattle.std.proofs.lemmas.Bool.{and_cases, and_from, and_parts, cases_eq, cases_lt, cond_both, eq-eqb, eqb-false, eqb-true, lt-ltb, ltb-false, ltb-true, not-false, not-true, or_cases, or_left, or_right}
-use Rattle.sizing.specs.Places.{cover_one, cover_two, first, is_in_list, pick, second}
+use Rattle.sizing.specs.Places.{first, is_in_list, pick, second}
 use Rattle.sizing.specs.Firsts.{Any, FirstLargestStands, FirstLargest, Rest}
 use Rattle.sizing.specs.Picks.{first_within}
 

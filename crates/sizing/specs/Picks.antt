@@ -1,12 +1,12 @@
 -- What is picked of a list, and that the two rules are lawful. Assumes nothing.
 use Rattle.std.specs.Prelude.{◌≡◌, ℕ, zero, suc, ◌+◌, ◌<◌, ◌≤◌, Bool, true, false, cond, not, ◌&&◌, ◌||◌, ◌⊎◌, List, [], ◌∷◌, length, drop, ◌==◌, ◌≢◌, nat_eq, nat_lt, slice_index, slice_index_or, refl}
-use Rattle.std.proofs.Common.{add-one, add-zero, zero-add, add_assoc, arith, sym, ap, ◌∙◌, subst, inl, inr, ⊎_elim}
+use Rattle.std.proofs.Common.{add-zero, zero-add, arith, sym, ap, ◌∙◌, ⊎_elim}
 use Rattle.std.proofs.lemmas.List.{length-take-le, at_drop_more, get_or-take}
 use Rattle.sizing.specs.Lists.{AreMeans}
 use Rattle.sizing.specs.Meant.{means_of}
 use Rattle.sizing.specs.declared.means.Means.{Means}
 use Rattle.std.proofs.lemmas.Bool.{cond_both, and_parts, and_cases, and_from, and_left, or_left, not-false, ltb-true, ltb-false, eqb-true, eq-eqb, ne_eqb, lt-ltb, le-ltb, cond-true, cond-false, and_right, not_from_true, not_from_false}
-use Rattle.sizing.specs.Marks.{Lawful, size_of}
+use Rattle.sizing.specs.Marks.{Lawful}
 use Rattle.sizing.specs.Places.{pick, pick_from, first, second, is_in_list, cover_one, cover_two}
 use Rattle.sizing.specs.Sizes.{marked_at_most_size}
 

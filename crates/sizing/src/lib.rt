@@ -1,4 +1,6 @@
 // Sizing rules: which means of a segment's members a fund must cover, and the size of the fund that does.
+#![tactic(auto)]
+
 pub mod covers;
 pub mod laws;
 pub mod means;

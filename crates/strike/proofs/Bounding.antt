@@ -1,5 +1,5 @@
 -- What the rows of a strike come to, member by member. Assumes nothing.
-use Rattle.std.proofs.Common.{◌≡◌, ℕ, ◌+◌, ◌-◌, ◌*◌, ◌<◌, ◌≤◌, max, Bool, true, false, cond, List, map, length, get_or, sym, refl, ap, ◌∙◌, subst, ⊎_elim, arith}
+use Rattle.std.proofs.Common.{◌≡◌, ℕ, ◌+◌, ◌-◌, ◌<◌, ◌≤◌, true, false, cond, List, map, length, get_or, sym, refl, ap, ◌∙◌, subst, ⊎_elim, arith}
 use Rattle.std.proofs.lemmas.List.FromFn.{get_or-map-range_with_len, length-map-range_with_len}
 use Rattle.std.proofs.lemmas.List.{length-map}
 use Rattle.std.proofs.lemmas.Bool.{cases_Bool, cond-true, cond-false}
@@ -14,8 +14,8 @@ use Rattle.asks.specs.Steps.{ask_at, asks_of}
 use Rattle.asks.proofs.Bounding.{bounds_kept}
 use Rattle.tables.specs.Book.{IsMember}
 use Rattle.strike.specs.declared.rows.Row.{Row}
-use Rattle.strike.specs.Members.{Members, ask_of, fund_of, means_of, minimums_of, over_members, over_sharers, how_many, place_of, sharers, sharers_to}
-use Rattle.strike.specs.Rows.{Told, ask_in, row_at, unasked}
+use Rattle.strike.specs.Members.{Members, ask_of, fund_of, means_of, minimums_of, over_members, over_sharers, how_many, place_of, sharers}
+use Rattle.strike.specs.Rows.{Told, ask_in, unasked}
 use Rattle.strike.specs.Promises.{AsksBounded}
 use Rattle.strike.proofs.Listing.{by_places, column_at, count, listed_at}
 

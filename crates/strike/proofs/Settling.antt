@@ -1,9 +1,9 @@
 -- Settling the seats of a segment, one member after the other, and that it leaves a book. Assumes nothing.
-use Rattle.std.proofs.Common.{◌≡◌, ℕ, suc, ◌+◌, ◌-◌, ◌<◌, ◌≤◌, max, Bool, true, false, cond, List, length, get_or, set, sym, refl, ap, ◌∙◌, subst, ⊎_elim, arith}
+use Rattle.std.proofs.Common.{◌≡◌, ℕ, ◌+◌, ◌-◌, ◌≤◌, max, true, false, List, get_or, set, sym, refl, ap, ◌∙◌, ⊎_elim, arith}
 use Rattle.std.proofs.lemmas.Bool.{cases_Bool, cases_eq, cond-true, cond-false}
 use Rattle.terms.specs.Limits.{amount_limit, figure_limit, minimum_limit, rounding_step}
 use Rattle.terms.proofs.Dividing.{rounded_mono, up_mean}
-use Rattle.tables.specs.Book.{Book, Empty, Exempt, IsMember, IsSegment, Kind, Sharing, Sound, no_seat, place, seat_at, shares}
+use Rattle.tables.specs.Book.{Book, IsMember, IsSegment, Sound, no_seat, place, seat_at, shares}
 use Rattle.tables.specs.Writing.{mean_of, written_to}
 use Rattle.tables.specs.declared.records.Pledges.{Pledges}
 use Rattle.tables.specs.declared.records.Seat.{Seat}
@@ -11,7 +11,7 @@ use Rattle.tables.proofs.SeatKinds.{empty_back, exempt_back, kind_empty, kind_ex
 use Rattle.tables.proofs.Segments.{unwritten, write_step, written_book}
 use Rattle.strike.specs.declared.rows.Row.{Row}
 use Rattle.strike.specs.Promises.{AsksBounded}
-use Rattle.strike.specs.Rows.{ask_in, row_at, unasked}
+use Rattle.strike.specs.Rows.{ask_in, unasked}
 use Rattle.strike.specs.Strike.{members_in, settled, settled_by}
 
 module _ (t : List Seat) (s : ℕ) (rows : List Row) where

@@ -1,5 +1,5 @@
 -- The rows of a strike, one member after the other. Assumes nothing.
-use Rattle.std.proofs.Common.{◌≡◌, ℕ, ◌+◌, ◌-◌, ◌<◌, ◌≤◌, Bool, true, false, cond, List, length, get_or, sym, ap, ◌∙◌, ⊎_elim, arith}
+use Rattle.std.proofs.Common.{◌≡◌, ℕ, ◌+◌, ◌-◌, ◌<◌, Bool, true, false, cond, List, length, get_or, sym, ap, ◌∙◌, ⊎_elim, arith}
 use Rattle.std.proofs.lemmas.Bool.{cases_Bool, cond-true, cond-false}
 use Rattle.sizing.specs.Marks.{Marking, size_of}
 use Rattle.asks.specs.Steps.{ask_at}
@@ -7,7 +7,7 @@ use Rattle.terms.specs.Limits.{all_members}
 use Rattle.tables.specs.Book.{IsMember}
 use Rattle.strike.specs.declared.rows.Row.{Row}
 use Rattle.strike.specs.Members.{Members, fund_of, means_of, minimums_of, place_of, sharers}
-use Rattle.strike.specs.Rows.{Told, row_at, row_of, unasked}
+use Rattle.strike.specs.Rows.{Told, row_at, unasked}
 use Rattle.strike.proofs.Listing.{count}
 use Rattle.strike.proofs.Bounding.{place_within}
 

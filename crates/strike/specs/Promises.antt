@@ -1,5 +1,5 @@
 -- What a strike promises, member by member, whatever rule sizes the fund.
-use Rattle.std.specs.Prelude.{◌≡◌, ℕ, ◌+◌, ◌*◌, ◌<◌, ◌≤◌, max, true, List, length}
+use Rattle.std.specs.Prelude.{◌≡◌, ℕ, ◌+◌, ◌*◌, ◌<◌, ◌≤◌, max, true, List}
 use Rattle.terms.specs.Limits.{rounding_step}
 use Rattle.tables.specs.Book.{IsMember}
 use Rattle.asks.specs.Bounds.{most_asked}

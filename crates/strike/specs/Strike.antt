@@ -1,5 +1,5 @@
 -- The strike of a segment: what it wants, in order, and what it leaves.
-use Rattle.std.specs.Prelude.{◌≡◌, ℕ, ◌<◌, ◌≤◌, Bool, true, cond, List, [], ◌∷◌, length, Result}
+use Rattle.std.specs.Prelude.{◌≡◌, ℕ, ◌≤◌, true, cond, List, [], ◌∷◌, length, Result}
 use Rattle.terms.specs.Limits.{all_members, fund_limit}
 use Rattle.terms.specs.Refusing.{Judged, Wants}
 use Rattle.terms.specs.declared.refusals.Refusal.{Refusal}

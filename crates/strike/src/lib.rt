@@ -1,4 +1,6 @@
 // The strike of a segment, for any sizing rule.
+#![tactic(auto)]
+
 pub mod rows;
 mod sharing;
 pub mod striking;

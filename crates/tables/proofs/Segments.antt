@@ -1,7 +1,7 @@
 -- A segment whose seats are written anew: what then stands where, and that it leaves a book. Assumes nothing.
-use Rattle.std.proofs.Common.{◌≡◌, ℕ, zero, suc, ◌+◌, ◌-◌, ◌*◌, ◌/◌, ◌%◌, ◌<◌, ◌≤◌, List, length, get_or, set, sym, refl, ap, ◌∙◌, subst, ⊎_elim, add-one, arith, length-set, get_or-set_other, get_or-set_same}
+use Rattle.std.proofs.Common.{◌≡◌, ℕ, zero, suc, ◌+◌, ◌/◌, ◌%◌, ◌<◌, ◌≤◌, List, length, get_or, set, sym, refl, ap, ◌∙◌, subst, ⊎_elim, add-one, arith, length-set, get_or-set_other, get_or-set_same}
 use Rattle.std.proofs.lemmas.Bool.{cases_eq}
-use Rattle.terms.specs.Limits.{all_seats, held_limit, last_member, last_segment}
+use Rattle.terms.specs.Limits.{all_seats, held_limit, last_member}
 use Rattle.terms.specs.Sums.{sum_to}
 use Rattle.terms.proofs.Adding.{sum_to_same}
 use Rattle.tables.specs.Book.{Book, IsMember, IsSegment, Sound, held_in, no_seat, place, seat_at}

@@ -1,4 +1,6 @@
 // The terms that every level speaks in: limits, refusals, classes and their duties.
+#![tactic(auto)]
+
 pub mod classes;
 pub mod limits;
 pub mod lists;

@@ -1,4 +1,4 @@
-use Rattle.std.proofs.Common.{◌≡◌, ℕ, sym, ap, subst}
+use Rattle.std.proofs.Common.{◌≡◌, sym, ap, subst}
 use Rattle.asks.specs.Bounds.{NeverAskedMore, most_asked}
 use Rattle.asks.specs.Steps.{rounded}
 use Rattle.asks.proofs.Bounding.{never_more}

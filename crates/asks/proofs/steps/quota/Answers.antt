@@ -1,4 +1,4 @@
-use Rattle.std.proofs.Common.{◌*◌, ◌≤◌, arith}
+use Rattle.std.proofs.Common.{arith}
 use Rattle.std.proofs.lemmas.Nat.{mul-le}
 use Rattle.terms.specs.Limits.{figure_limit, fund_limit}
 use Rattle.asks.proofs.OneMember.{quota_at_most_mean}

@@ -1,8 +1,6 @@
-use Rattle.std.proofs.Common.{◌≡◌, ℕ, ◌-◌, length, get_or, sym, ap, ◌∙◌, arith}
-use Rattle.terms.specs.Sums.{sum_to}
+use Rattle.std.proofs.Common.{◌≡◌, ◌-◌, get_or, sym, ap, ◌∙◌, arith}
 use Rattle.terms.proofs.Adding.{sum_to_more, sum_to_none}
 use Rattle.sizing.specs.Meant.{means_of}
-use Rattle.sizing.specs.Picks.{means_of_long}
 use Rattle.asks.specs.Steps.{above_of, quota_of}
 use Rattle.asks.proofs.OneMember.{above_is}
 use Rattle.asks.proofs.within.sum_above.Goals as goal

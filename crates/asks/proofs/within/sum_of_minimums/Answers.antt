@@ -1,4 +1,4 @@
-use Rattle.std.proofs.Common.{◌≡◌, get_or, sym, arith}
+use Rattle.std.proofs.Common.{get_or, sym, arith}
 use Rattle.terms.proofs.Adding.{sum_to_more, sum_to_none}
 use Rattle.asks.proofs.within.sum_of_minimums.Goals as goal
 

@@ -1,4 +1,4 @@
-use Rattle.std.proofs.Common.{true, eqb, [], length, pos, sym, refl, ◌∙◌, arith}
+use Rattle.std.proofs.Common.{eqb, [], length, pos, sym, refl, ◌∙◌, arith}
 use Rattle.std.proofs.lemmas.Bool.{and_parts, eqb-true, true≢false}
 use Rattle.terms.specs.Limits.{most_changes, most_positions}
 use Rattle.dayfile.specs.Outcome.{nothing_held}

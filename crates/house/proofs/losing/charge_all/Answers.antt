@@ -1,5 +1,5 @@
 use Rattle.std.proofs.Common.{◌≡◌, ℕ, ◌+◌, ◌-◌, get_or, sym, ap, ◌∙◌, arith}
-use Rattle.tables.specs.Book.{no_seat, seat_at}
+use Rattle.tables.specs.Book.{seat_at}
 use Rattle.tables.specs.declared.records.Seat.{Seat}
 use Rattle.tables.proofs.Segments.{none_written, unwritten, write_step}
 use Rattle.house.specs.Loss.{charged_by}

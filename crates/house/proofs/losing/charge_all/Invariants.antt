@@ -1,4 +1,4 @@
-use Rattle.std.proofs.Common.{◌≡◌, ℕ}
+use Rattle.std.proofs.Common.{◌≡◌}
 use Rattle.tables.specs.Book.{seat_at}
 use Rattle.tables.specs.Writing.{written_to}
 use Rattle.house.specs.Loss.{charged_by}

@@ -1,4 +1,4 @@
-use Rattle.std.proofs.Common.{◌≡◌, ℕ, ◌+◌, ◌-◌, ◌<◌, ◌≤◌, min, true, List, length, get_or, set, sym, refl, ap, ◌∙◌, subst, arith}
+use Rattle.std.proofs.Common.{◌≡◌, ℕ, ◌+◌, ◌-◌, ◌≤◌, min, true, List, length, get_or, set, sym, refl, ap, ◌∙◌, subst, arith}
 use Rattle.terms.specs.Limits.{all_members}
 use Rattle.tables.specs.Book.{Book, IsMember, IsSegment, held_in, no_seat, seat_at, shares}
 use Rattle.tables.specs.declared.records.Seat.{Seat}

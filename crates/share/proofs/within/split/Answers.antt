@@ -1,6 +1,6 @@
-use Rattle.std.proofs.Common.{◌≡◌, ℕ, ◌+◌, ◌-◌, ◌<◌, ◌≤◌, map, length, get_or, set, sym, ap, ◌∙◌, subst, arith}
+use Rattle.std.proofs.Common.{◌≡◌, ℕ, ◌+◌, ◌-◌, ◌<◌, map, length, get_or, set, sym, subst, arith}
 use Rattle.std.proofs.lemmas.List.Edits.{fill_by_more}
-use Rattle.share.specs.Split.{weight_in, part_at, cut}
+use Rattle.share.specs.Split.{weight_in, part_at}
 use Rattle.terms.proofs.Adding.{sum_to_none}
 use Rattle.share.proofs.Cuts.{sum_turn, sum_within, part_turn, cut_none, cut_mono}
 use Rattle.share.proofs.within.split.Goals as goal

@@ -1,4 +1,4 @@
-use Rattle.std.proofs.Common.{◌≡◌, map, sym, ap, ◌∙◌, arith}
+use Rattle.std.proofs.Common.{map, sym, arith}
 use Rattle.share.specs.Split.{weight_in}
 use Rattle.terms.proofs.Adding.{sum_to_none}
 use Rattle.share.proofs.Cuts.{sum_turn, sum_within}

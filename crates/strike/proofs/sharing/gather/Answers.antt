@@ -1,9 +1,8 @@
-use Rattle.std.proofs.Common.{◌≡◌, ℕ, ◌+◌, ◌<◌, ◌≤◌, Bool, true, false, length, get_or, sym, ap, ◌∙◌, arith}
+use Rattle.std.proofs.Common.{◌≡◌, ℕ, ◌+◌, ◌<◌, true, false, length, get_or, sym, ap, ◌∙◌, arith}
 use Rattle.terms.specs.Limits.{figure_limit, minimum_limit}
 use Rattle.terms.proofs.Dividing.{up_mean}
 use Rattle.tables.specs.Book.{Sound, no_seat, place, seat_at, shares}
 use Rattle.tables.specs.Writing.{mean_of}
-use Rattle.tables.specs.declared.records.Seat.{Seat}
 use Rattle.tables.proofs.SeatKinds.{sharing_back}
 use Rattle.strike.specs.Strike.{members_in}
 use Rattle.strike.proofs.Gathering.{column_no, column_none, column_yes, small_kept, small_more}

@@ -1,4 +1,4 @@
-use Rattle.std.proofs.Common.{◌≡◌, ℕ, ◌+◌, ◌-◌, ◌<◌, ◌≤◌, Bool, true, false, length, get_or, sym, ap, ◌∙◌, arith}
+use Rattle.std.proofs.Common.{◌≡◌, ℕ, ◌+◌, ◌<◌, Bool, true, false, length, get_or, sym, ap, ◌∙◌, arith}
 use Rattle.sizing.specs.Meant.{means_of}
 use Rattle.tables.specs.Book.{no_seat, place, shares}
 use Rattle.strike.specs.Strike.{members_in}

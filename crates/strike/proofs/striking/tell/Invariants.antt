@@ -1,4 +1,4 @@
-use Rattle.std.proofs.Common.{◌≡◌, ℕ, ◌<◌, ◌≤◌, cond, length, get_or}
+use Rattle.std.proofs.Common.{◌≡◌, ℕ, ◌≤◌, cond, length, get_or}
 use Rattle.sizing.specs.Meant.{means_of}
 use Rattle.strike.specs.Members.{place_of, sharers_to}
 use Rattle.strike.specs.Rows.{row_at, unasked}

@@ -1,4 +1,4 @@
-use Rattle.std.proofs.Common.{◌≡◌, ℕ, ◌+◌, get_or, sym, ap, arith}
+use Rattle.std.proofs.Common.{ℕ, ◌+◌, get_or, sym, ap, arith}
 use Rattle.terms.specs.Limits.{last_member}
 use Rattle.terms.proofs.Adding.{sum_to_mono, sum_to_more, sum_to_none}
 use Rattle.tables.specs.Book.{no_seat, seat_at}

@@ -1,4 +1,4 @@
-use Rattle.std.proofs.Common.{length, get_or, take, sym, arith}
+use Rattle.std.proofs.Common.{take, sym, arith}
 use Rattle.std.proofs.lemmas.List.{get_or-take, get_or_past, length-take-le}
 use Rattle.sizing.proofs.means.Means.at.Goals as goal
 
