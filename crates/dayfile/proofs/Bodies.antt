@@ -1,6 +1,6 @@
 -- The lines after the sheet, both ways, for any rule of adding. Assumes nothing.
 use Rattle.std.proofs.Common.{◌≡◌, ℕ, ◌+◌, ◌≤◌, true, List, [], ◌∷◌, ◌++◌, map, length, Some, None, Ok, Err, codes, Option, Result, sym, refl, ap, ◌∙◌, subst, ⊎_elim, arith}
-use Rattle.std.specs.List.{AllByRecursion as All}
+use Rattle.std.specs.List.{AllByRecursion}
 use Rattle.std.proofs.lemmas.List.{append_assoc, append-nil, length-append}
 use Rattle.std.proofs.lemmas.Bool.{eq-eqb, eqb-true, ltb-true, lt-ltb}
 use Rattle.terms.specs.Limits.{most_positions}
@@ -43,7 +43,7 @@ nothing_back (c ∷ cs) ls h = let z : ◌≡◌ {A = ℕ} 0 1 = cc in absurd (o
 pub record Left (add : Rule) (done : List Entry) (columns : List ℕ) (es : List Entry) (p : Parts) (all : List Entry) : Type 0 where
   pub is : all ≡ done ++ es
   pub lines : p ≡ ended (rest_lines es (length all)) ([], [])
-  pub sound : All Written es
+  pub sound : AllByRecursion Written es
   pub accepted : Accepted add columns es
   pub short : Short (length all)
 
@@ -51,9 +51,9 @@ pub record Left (add : Rule) (done : List Entry) (columns : List ℕ) (es : List
 record HeldLeft (add : Rule) (done : List Entry) (columns : List ℕ) (h : Hand) (qs : List Position) (es : List Entry) (p : Parts) (all : List Entry) : Type 0 where
   is : all ≡ done ++ (grown h.entry qs ∷ es)
   lines : p ≡ ended (map position_line qs) (ended (rest_lines es (length all)) ([], []))
-  numbered : All Numbered qs
+  numbered : AllByRecursion Numbered qs
   few : length h.entry.positions + length qs ≤ most_positions
-  sound : All Written es
+  sound : AllByRecursion Written es
   accepted : Accepted add columns (grown h.entry qs ∷ es)
   short : Short (length all)
 
@@ -167,7 +167,7 @@ later n [] = n
 later n (q ∷ qs) = later (n + 1) qs
 
 -- the lines of positions
-positions_made : (add : Rule) (done : List Entry) (columns : List ℕ) (h : Hand) (n : ℕ) (qs : List Position) (p : Parts) → All Numbered qs → length h.entry.positions + length qs ≤ most_positions → run add done columns (Some h) n (ended (map position_line qs) p) ≡ run add done columns (Some (taken h qs)) (later n qs) p
+positions_made : (add : Rule) (done : List Entry) (columns : List ℕ) (h : Hand) (n : ℕ) (qs : List Position) (p : Parts) → AllByRecursion Numbered qs → length h.entry.positions + length qs ≤ most_positions → run add done columns (Some h) n (ended (map position_line qs) p) ≡ run add done columns (Some (taken h qs)) (later n qs) p
 positions_made add done columns h n [] p nq few = ap (λ a. run add done columns (Some (record { line = h.line; entry = a })) n p) (sym (grown_none h.entry))
 positions_made add done columns h n (q ∷ qs) p nq few =
     given_made _ _ _ q (position_made q nq.0)
@@ -187,7 +187,7 @@ account_line_made add done columns hand n e ls s h w =
     (ap (run add s.0 s.1 (Some (opened n e.account)) (n + 1)) (ended_append (map position_line e.positions) ls ([], []))))
 
 -- an account in hand, its other positions, the accounts after it and the end
-accounts_made : (add : Rule) (done : List Entry) (columns : List ℕ) (h : Hand) (n : ℕ) (qs : List Position) (es : List Entry) (k : ℕ) → All Numbered qs → length h.entry.positions + length qs ≤ most_positions → Accepted add columns (grown h.entry qs ∷ es) → All Written es → length done + 1 + length es ≡ k → Short k
+accounts_made : (add : Rule) (done : List Entry) (columns : List ℕ) (h : Hand) (n : ℕ) (qs : List Position) (es : List Entry) (k : ℕ) → AllByRecursion Numbered qs → length h.entry.positions + length qs ≤ most_positions → Accepted add columns (grown h.entry qs ∷ es) → AllByRecursion Written es → length done + 1 + length es ≡ k → Short k
     → run add done columns (Some h) n (ended (map position_line qs) (ended (rest_lines es k) ([], []))) ≡ Ok (done ++ (grown h.entry qs ∷ es))
 accounts_made add done columns h n qs [] k nq few acc sound count short =
     positions_made add done columns h n qs (ended (rest_lines [] k) ([], [])) nq few
@@ -201,7 +201,7 @@ accounts_made add done columns h n qs (e ∷ es) k nq few acc sound count short 
     ∙ ap Ok (append_assoc done (grown h.entry qs ∷ []) (e ∷ es))
 
 -- all accounts and the end
-pub body_made : (add : Rule) (columns : List ℕ) (n : ℕ) (es : List Entry) → Accepted add columns es → All Written es → Short (length es) → run add [] columns None n (ended (rest_lines es (length es)) ([], [])) ≡ Ok es
+pub body_made : (add : Rule) (columns : List ℕ) (n : ℕ) (es : List Entry) → Accepted add columns es → AllByRecursion Written es → Short (length es) → run add [] columns None n (ended (rest_lines es (length es)) ([], [])) ≡ Ok es
 body_made add columns n [] acc sound short = refl
 body_made add columns n (e ∷ es) acc sound short =
     let w = sound.0 in

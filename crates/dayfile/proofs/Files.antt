@@ -1,6 +1,6 @@
 -- The whole file, both ways. Assumes nothing.
 use Rattle.std.proofs.Common.{◌≡◌, ℕ, ◌+◌, ◌≤◌, leb, List, [], ◌∷◌, ◌++◌, map, length, ℤ, None, Ok, codes, sym, refl, ap, ◌∙◌, subst, arith}
-use Rattle.std.specs.List.{flat_map, AllByRecursion as All}
+use Rattle.std.specs.List.{flat_map, AllByRecursion}
 use Rattle.std.proofs.lemmas.List.{length-append}
 use Rattle.std.proofs.lemmas.Bool.{le-leb, leb-true}
 use Rattle.terms.specs.Limits.{most_file_bytes}
@@ -14,11 +14,11 @@ use Rattle.dayfile.proofs.LineFields.{sheet_back, sheet_made, kind_without}
 use Rattle.dayfile.proofs.Bodies.{body_back, body_made}
 
 -- No line holds byte 10.
-glued_without : (f : List ℕ) (fs : List (List ℕ)) → Without 10 f → All (Without 10) fs → Without 10 (glued 44 (f, fs))
+glued_without : (f : List ℕ) (fs : List (List ℕ)) → Without 10 f → AllByRecursion (Without 10) fs → Without 10 (glued 44 (f, fs))
 glued_without f [] h k = without_append 10 f [] h tt
 glued_without f (g ∷ fs) h k = without_append 10 f (44 ∷ (g ++ joined_by 44 fs)) h ((λ e. omega arith), glued_without g fs k.0 k.1)
 
-changes_without : (zs : List ℤ) → All (Without 10) (map signed_text zs)
+changes_without : (zs : List ℤ) → AllByRecursion (Without 10) (map signed_text zs)
 changes_without [] = tt
 changes_without (z ∷ zs) = (signed_without 10 z (omega arith), changes_without zs)
 
@@ -29,14 +29,14 @@ change_without (z ∷ zs) = without_append 10 (codes "chg=") (change_text (z ∷
 plain_without : (key : List ℕ) (n : ℕ) → Without 10 key → Without 10 (key ++ decimal n)
 plain_without key n h = without_append 10 key (decimal n) h (decimal_without 10 n (omega arith))
 
-positions_without : (ps : List Position) (ls : List (List ℕ)) → All (Without 10) ls → All (Without 10) (map position_line ps ++ ls)
+positions_without : (ps : List Position) (ls : List (List ℕ)) → AllByRecursion (Without 10) ls → AllByRecursion (Without 10) (map position_line ps ++ ls)
 positions_without [] ls h = h
 positions_without (p ∷ ps) ls h = (
   without_append 10 (codes "pos=") (glued 44 (decimal p.asset, signed_text p.quantity ∷ [])) (omega arith) (glued_without (decimal p.asset) (signed_text p.quantity ∷ []) (decimal_without 10 p.asset (omega arith)) (signed_without 10 p.quantity (omega arith), tt)),
   positions_without ps ls h,
 )
 
-rest_without : (es : List Entry) (k : ℕ) → All (Without 10) (rest_lines es k)
+rest_without : (es : List Entry) (k : ℕ) → AllByRecursion (Without 10) (rest_lines es k)
 rest_without [] k = (plain_without (codes "end=") k (omega arith), tt)
 rest_without (e ∷ es) k = (
   without_append 10 (codes "acc=") (glued 44 (kind_text e.account.kind, decimal e.account.required ∷ decimal e.account.posted ∷ [])) (omega arith)
@@ -44,11 +44,11 @@ rest_without (e ∷ es) k = (
   positions_without e.positions (rest_lines es k) (rest_without es k),
 )
 
-sheet_without : (zss : List (List ℤ)) (ls : List (List ℕ)) → All (Without 10) ls → All (Without 10) (map change_line zss ++ ls)
+sheet_without : (zss : List (List ℤ)) (ls : List (List ℕ)) → AllByRecursion (Without 10) ls → AllByRecursion (Without 10) (map change_line zss ++ ls)
 sheet_without [] ls h = h
 sheet_without (zs ∷ zss) ls h = (change_without zs, sheet_without zss ls h)
 
-day_without : (d : Day) → All (Without 10) (day_lines d)
+day_without : (d : Day) → AllByRecursion (Without 10) (day_lines d)
 day_without d = (
   plain_without (codes "form=") 1 (omega arith),
   (

@@ -1,6 +1,6 @@
 -- The sheet's lines, and the fields of positions and accounts, each both ways. Assumes nothing.
 use Rattle.std.proofs.Common.{◌≡◌, ℕ, zero, suc, ◌+◌, ◌≤◌, true, cond, List, [], ◌∷◌, ◌++◌, map, length, ℤ, nat_abs, Some, None, Ok, codes, Option, sym, refl, ap, ◌∙◌, subst, ⊎_elim, arith}
-use Rattle.std.specs.List.{AllByRecursion as All}
+use Rattle.std.specs.List.{AllByRecursion}
 use Rattle.std.proofs.lemmas.Bool.{eq-eqb, eqb-true, leb-true, le-leb, cases_Bool, and_parts, and_from}
 use Rattle.terms.specs.Limits.{within, most_assets, change_limit}
 use Rattle.figures.specs.declared.kinds.Kind.{Kind}
@@ -23,7 +23,7 @@ also_parts (Some z) (Some ws) zs h = (z, ws, refl, refl, some_same h)
 
 -- numbers that a line can hold
 abbrev pub Shorts : List ℤ → Type 0
-Shorts zs = All (λ z. Short (nat_abs z)) zs
+Shorts zs = AllByRecursion (λ z. Short (nat_abs z)) zs
 
 pub numbers_back : (fs : List (List ℕ)) (zs : List ℤ) → numbers fs ≡ Some zs → (fs ≡ map signed_text zs) × Shorts zs
 numbers_back [] zs h = subst (λ x. (◌≡◌ {A = List (List ℕ)} [] (map signed_text x)) × Shorts x) (some_same h) (refl, tt)
@@ -46,7 +46,7 @@ text_from p (z ∷ zs) e =
     (λ i. glued 44 (a i, b i))
 
 -- no number holds a comma, so the fields of the text are theirs
-commaless : (zs : List ℤ) → All (Without 44) (map signed_text zs)
+commaless : (zs : List ℤ) → AllByRecursion (Without 44) (map signed_text zs)
 commaless [] = tt
 commaless (z ∷ zs) = (signed_without 44 z (omega arith), commaless zs)
 
@@ -55,15 +55,15 @@ parts_of [] h = absurd (omega arith)
 parts_of (z ∷ zs) h = ap (λ (p : Parts). p.0 ∷ p.1) (parted_made 44 (signed_text z) (map signed_text zs) (signed_without 44 z (omega arith)) (commaless zs))
 
 -- Changes
-pub small_back : (zs : List ℤ) → every change_ok zs ≡ true → All (λ z. nat_abs z ≤ change_limit) zs
+pub small_back : (zs : List ℤ) → every change_ok zs ≡ true → AllByRecursion (λ z. nat_abs z ≤ change_limit) zs
 small_back [] h = tt
 small_back (z ∷ zs) h = let p = and_parts (change_ok z) (every change_ok zs) h in (leb-true _ _ p.0, small_back zs p.1)
 
-pub small_made : (zs : List ℤ) → All (λ z. nat_abs z ≤ change_limit) zs → every change_ok zs ≡ true
+pub small_made : (zs : List ℤ) → AllByRecursion (λ z. nat_abs z ≤ change_limit) zs → every change_ok zs ≡ true
 small_made [] h = refl
 small_made (z ∷ zs) h = and_from (change_ok z) (every change_ok zs) (le-leb _ _ h.0) (small_made zs h.1)
 
-shorts_from : (zs : List ℤ) → All (λ z. nat_abs z ≤ change_limit) zs → Shorts zs
+shorts_from : (zs : List ℤ) → AllByRecursion (λ z. nat_abs z ≤ change_limit) zs → Shorts zs
 shorts_from [] h = tt
 shorts_from (z ∷ zs) h = (omega (arith, h.0), shorts_from zs h.1)
 
@@ -81,18 +81,18 @@ changes_made scenarios n zs one r =
     (want_made _ _ _ (eq-eqb _ _ r.count) (want_made _ _ _ (small_made zs r.small) refl))
 
 -- the rows of a sheet: each has a change for each scenario
-pub rows_back : (scenarios k n : ℕ) (p : Parts) (r : List (List ℤ) × Parts) → rows_read scenarios k n p ≡ Ok r → (p ≡ ended (map change_line r.0) r.1) × (length r.0 ≡ k) × All (InRange scenarios) r.0
-rows_back scenarios zero n p r h = subst (λ (x : List (List ℤ) × Parts). (p ≡ ended (map change_line x.0) x.1) × (length x.0 ≡ 0) × All (InRange scenarios) x.0) (ok_same h) (refl, refl, tt)
+pub rows_back : (scenarios k n : ℕ) (p : Parts) (r : List (List ℤ) × Parts) → rows_read scenarios k n p ≡ Ok r → (p ≡ ended (map change_line r.0) r.1) × (length r.0 ≡ k) × AllByRecursion (InRange scenarios) r.0
+rows_back scenarios zero n p r h = subst (λ (x : List (List ℤ) × Parts). (p ≡ ended (map change_line x.0) x.1) × (length x.0 ≡ 0) × AllByRecursion (InRange scenarios) x.0) (ok_same h) (refl, refl, tt)
 rows_back scenarios (suc k) n p r h =
     let t = then_back (next (codes "chg=") n p) _ _ h in
     let c = then_back (changes scenarios n t.0.0) _ _ t.2 in
     let s = then_back (rows_read scenarios k (n + 1) t.0.1) _ _ c.2 in
     let i = rows_back scenarios k (n + 1) t.0.1 s.0 s.1 in
     let z = changes_back scenarios n t.0.0 c.0 c.1 in
-    subst (λ (x : List (List ℤ) × Parts). (p ≡ ended (map change_line x.0) x.1) × (length x.0 ≡ suc k) × All (InRange scenarios) x.0) (ok_same s.2)
+    subst (λ (x : List (List ℤ) × Parts). (p ≡ ended (map change_line x.0) x.1) × (length x.0 ≡ suc k) × AllByRecursion (InRange scenarios) x.0) (ok_same s.2)
     (next_back (codes "chg=") n p t.0 t.1 ∙ (λ j. more (codes "chg=" ++ z.0 j) (i.0 j)), ap suc i.1, (z.1, i.2))
 
-pub rows_made : (scenarios n : ℕ) (zss : List (List ℤ)) (q : Parts) → 1 ≤ scenarios → All (InRange scenarios) zss → rows_read scenarios (length zss) n (ended (map change_line zss) q) ≡ Ok (zss, q)
+pub rows_made : (scenarios n : ℕ) (zss : List (List ℤ)) (q : Parts) → 1 ≤ scenarios → AllByRecursion (InRange scenarios) zss → rows_read scenarios (length zss) n (ended (map change_line zss) q) ≡ Ok (zss, q)
 rows_made scenarios n [] q one h = refl
 rows_made scenarios n (zs ∷ zss) q one h =
     then_made (changes scenarios n (change_text zs)) _ zs (changes_made scenarios n zs one h.0)

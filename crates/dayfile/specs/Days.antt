@@ -1,6 +1,6 @@
 -- A day, and the bytes that write it.
 use Rattle.std.specs.Prelude.{◌≡◌, ℕ, ◌≤◌, List, [], ◌∷◌, ◌++◌, map, length, replicate, ℤ, None, Ok, Err, codes, Result, unsigned_abs}
-use Rattle.std.specs.List.{flat_map, AllByRecursion as All}
+use Rattle.std.specs.List.{flat_map, AllByRecursion}
 use Rattle.terms.specs.Limits.{most_scenarios, most_assets, most_positions, change_limit, most_file_bytes}
 use Rattle.terms.specs.Refusing.{first_refusal}
 use Rattle.terms.specs.declared.refusals.Refusal.{Refusal}
@@ -122,11 +122,11 @@ Headed h = first_refusal (heading_tests h.member h.segment h.day h.scenarios) �
 -- a change for each scenario, each in range
 pub record InRange (scenarios : ℕ) (zs : List ℤ) : Type 0 where
   pub count : length zs ≡ scenarios
-  pub small : All (λ z. unsigned_abs z ≤ change_limit) zs
+  pub small : AllByRecursion (λ z. unsigned_abs z ≤ change_limit) zs
 
 pub record Lawful (scenarios : ℕ) (zss : List (List ℤ)) : Type 0 where
   pub assets : (1 ≤ length zss) × (length zss ≤ most_assets)
-  pub changes : All (InRange scenarios) zss
+  pub changes : AllByRecursion (InRange scenarios) zss
 
 -- numbers that a line can hold
 pub record Numbered (p : Position) : Type 0 where
@@ -137,11 +137,11 @@ pub record Written (e : Entry) : Type 0 where
   pub required : Short e.account.required
   pub posted : Short e.account.posted
   pub few : length e.positions ≤ most_positions
-  pub positions : All Numbered e.positions
+  pub positions : AllByRecursion Numbered e.positions
 
 pub record Good (d : Day) : Type 0 where
   pub head : Headed d.head
   pub sheet : Lawful d.head.scenarios d.sheet
-  pub accounts : All Written d.accounts
+  pub accounts : AllByRecursion Written d.accounts
   pub accepted : Accepted (rule_of d) zeros d.accounts
   pub short : length (written d) ≤ most_file_bytes

@@ -1,6 +1,6 @@
 -- Each layer of the text, both ways: what is read is what is written. Assumes nothing.
 use Rattle.std.proofs.Common.{◌≡◌, ℕ, zero, suc, ◌+◌, ◌<◌, Bool, true, cond, eqb, List, [], ◌∷◌, ◌++◌, map, ℤ, pos, negsuc, nat_abs, Some, None, Option, sym, refl, ap, ◌∙◌, subst, ⊎_elim, arith}
-use Rattle.std.specs.List.{flat_map, AllByRecursion as All}
+use Rattle.std.specs.List.{flat_map, AllByRecursion}
 use Rattle.std.specs.Int.Digits.{digits_of}
 use Rattle.std.proofs.lemmas.List.{append_assoc, append-nil}
 use Rattle.std.proofs.lemmas.Bool.{eq-eqb, ne_eqb, eqb-true, cases_eq, and_parts}
@@ -9,7 +9,7 @@ use Rattle.daytext.proofs.Numerals.{number_written, number_read, none_some}
 
 -- the byte c stands nowhere in the text
 abbrev pub Without : ℕ → List ℕ → Type 0
-Without c bs = All (λ b. b ≡ c → ⊥) bs
+Without c bs = AllByRecursion (λ b. b ≡ c → ⊥) bs
 
 pub without_append : (c : ℕ) (xs ys : List ℕ) → Without c xs → Without c ys → Without c (xs ++ ys)
 without_append c [] ys h k = k
@@ -112,7 +112,7 @@ parted_alone : (sep : ℕ) (f : List ℕ) → Without sep f → parted sep f ≡
 parted_alone sep [] h = refl
 parted_alone sep (c ∷ f) h = ap (cut sep c (parted sep f)) (ne_eqb c sep h.0) ∙ ap (λ (p : Parts). (c ∷ p.0, p.1)) (parted_alone sep f h.1)
 
-pub parted_made : (sep : ℕ) (f : List ℕ) (fs : List (List ℕ)) → Without sep f → All (Without sep) fs → parted sep (glued sep (f, fs)) ≡ (f, fs)
+pub parted_made : (sep : ℕ) (f : List ℕ) (fs : List (List ℕ)) → Without sep f → AllByRecursion (Without sep) fs → parted sep (glued sep (f, fs)) ≡ (f, fs)
 parted_made sep f [] h k = ap (parted sep) (append-nil f) ∙ parted_alone sep f h
 parted_made sep f (g ∷ fs) h k = parted_front sep f (g ++ joined_by sep fs) h ∙ ap (more f) (parted_made sep g fs k.0 k.1)
 
@@ -121,7 +121,7 @@ abbrev pub ended : List (List ℕ) → Parts → Parts
 ended [] p = p
 ended (l ∷ ls) p = more l (ended ls p)
 
-pub lines_made : (ls : List (List ℕ)) → All (Without 10) ls → parted 10 (flat_map (λ l. l ++ (10 ∷ [])) ls) ≡ ended ls ([], [])
+pub lines_made : (ls : List (List ℕ)) → AllByRecursion (Without 10) ls → parted 10 (flat_map (λ l. l ++ (10 ∷ [])) ls) ≡ ended ls ([], [])
 lines_made [] h = refl
 lines_made (l ∷ ls) h =
     ap (parted 10) (append_assoc l (10 ∷ []) (flat_map (λ x. x ++ (10 ∷ [])) ls))

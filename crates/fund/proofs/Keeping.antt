@@ -1,6 +1,6 @@
 -- Each call leaves a book. Assumes nothing.
 use Rattle.std.proofs.Common.{◌≡◌, ℕ, zero, suc, ◌+◌, ◌-◌, ◌<◌, ◌≤◌, true, false, List, length, get_or, replicate, is_some, Ok, Err, MatchBool, Result, sym, refl, ap, ◌∙◌, subst, ⊎_elim, arith}
-use lib.ListN.{length-replicate}
+use Rattle.std.proofs.lemmas.List.{length-replicate}
 use Rattle.std.proofs.lemmas.Bool.{cases_Bool}
 use Rattle.terms.specs.Classes.{class_of}
 use Rattle.terms.specs.Limits.{all_pledges, all_seats, amount_limit, last_member, minimum_limit, most_days}

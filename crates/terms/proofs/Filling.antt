@@ -1,7 +1,6 @@
 -- A list that is filled from a place on. Assumes nothing.
 use Rattle.std.proofs.Common.{◌≡◌, ℕ, ◌+◌, ◌-◌, ◌<◌, ◌≤◌, List, [], ◌∷◌, ◌++◌, length, get_or, take, drop, set, replicate, sym, ap, ◌∙◌, arith}
-use lib.ListN.{length-replicate}
-use Rattle.std.proofs.lemmas.List.{append_assoc, append-nil, length-append, length-take-le, take-append-drop, at_drop_more, at_drop_all, set_at, replicate_more}
+use Rattle.std.proofs.lemmas.List.{append_assoc, append-nil, length-append, length-replicate, length-take-le, take-append-drop, at_drop_more, at_drop_all, set_at, replicate_more}
 
 module _ {X : Type 0} (old : List X) (from : ℕ) (v : X) where
   pub fill_start : old ≡ (take from old ++ replicate (from - from) v) ++ drop from old

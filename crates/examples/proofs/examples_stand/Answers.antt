@@ -1,4 +1,4 @@
-use mathlib.Core.Path.{refl}
+use Rattle.std.proofs.Common.{refl}
 use Rattle.terms.specs.Sums.{sum_to}
 use Rattle.examples.specs.Worked.{Right, worked}
 use Rattle.examples.proofs.examples_stand.Goals as goal
