@@ -14,9 +14,9 @@ use Rattle.amounts.specs.Treasury.{owes}
 pub record Small (g : Given) : Type 0 where
   pub minimum : g.minimum ≤ amount_limit
   pub lri : g.lri ≤ amount_limit
-  pub use_above_lri : g.lri_use ≤ amount_limit
+  pub lri_use : g.lri_use ≤ amount_limit
   pub lmc : g.lmc ≤ amount_limit
-  pub use_above_lmc : g.lmc_use ≤ amount_limit
+  pub lmc_use : g.lmc_use ≤ amount_limit
   pub required : g.required ≤ amount_limit
   pub equity : g.equity ≤ amount_limit
 

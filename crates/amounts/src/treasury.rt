@@ -1,7 +1,7 @@
 // The treasury amount.
 
 ghost use Rattle.amounts.specs.Treasury.{TreasuryAmount, owes};
-ghost use Rattle.terms.specs.declared.classes.Duty.TheVariants.{TreasuryAmount as treasury-duty};
+ghost use Rattle.terms.specs.declared.classes.Duty.TheVariants.{TreasuryAmount as treasury_duty};
 ghost use Rattle.std.specs.Prelude.{◌≡◌};
 
 use tables::within::{is_member, is_segment, place_of};
@@ -11,7 +11,7 @@ use terms::{Class, Duty, Refusal};
 
 // Whether the class of this number owes the treasury amount.
 fn owes_treasury(class: u64) -> bool
-    ensures { result ≡ owes class treasury-duty }
+    ensures { result ≡ owes class treasury_duty }
 {
     match Class::numbered(class) {
         None => false,

@@ -85,7 +85,7 @@ abbrev before : List (List ℤ) → Result (List (List ℤ) × Parts) Fault → 
 before zss (Ok r) = Ok (zss ++ r.0, r.1)
 before zss (Err e) = Err e
 
-pub record Rows-sofar (scenarios assets : ℕ) (first : List ℕ) (old : List ℤ) (a : ℕ) (rest : List ℕ) (new : List ℤ) (zss : List (List ℤ)) : Type 0 where
+pub record RowsSofar (scenarios assets : ℕ) (first : List ℕ) (old : List ℤ) (a : ℕ) (rest : List ℕ) (new : List ℤ) (zss : List (List ℤ)) : Type 0 where
   pub read : before zss (rows_read scenarios (assets - a) (7 + a) (parted 10 rest)) ≡ rows_read scenarios assets 7 (parted 10 first)
   pub count : length zss ≡ a
   pub wide : length (flat zss) ≡ a * scenarios
@@ -99,7 +99,7 @@ before_more : (zss : List (List ℤ)) (zs : List ℤ) (r : Result (List (List �
 before_more zss zs (Ok x) = ap (λ l. Ok (l, x.1)) (append_assoc zss (zs ∷ []) x.0)
 before_more zss zs (Err e) = refl
 
-pub rows_start : (scenarios assets : ℕ) (first : List ℕ) (old : List ℤ) → Rows-sofar scenarios assets first old 0 first old []
+pub rows_start : (scenarios assets : ℕ) (first : List ℕ) (old : List ℤ) → RowsSofar scenarios assets first old 0 first old []
 rows_start scenarios assets first old = record {
   read = before_none _ ∙ ap (λ k. rows_read scenarios k 7 (parted 10 first)) (sub-zero assets);
   count = refl;
@@ -118,7 +118,7 @@ bad_asset : (r : Result (List ℤ × Parts) Fault) (old : List ℤ) (at : ℕ) (
 bad_asset (Ok x) old at e new h = absurd h
 bad_asset (Err f) old at e new h = ap Err (sym h)
 
-module _ (scenarios assets : ℕ) (first : List ℕ) (old : List ℤ) (a : ℕ) (rest : List ℕ) (new : List ℤ) (zss : List (List ℤ)) (s : Rows-sofar scenarios assets first old a rest new zss) where
+module _ (scenarios assets : ℕ) (first : List ℕ) (old : List ℤ) (a : ℕ) (rest : List ℕ) (new : List ℤ) (zss : List (List ℤ)) (s : RowsSofar scenarios assets first old a rest new zss) where
   pub rows_bad : (e : Fault) (new' : List ℤ) → a < assets → AssetRead (asset_read scenarios (7 + a) (parted 10 rest)) new (a * scenarios) (Err e) new' → rows_read scenarios assets 7 (parted 10 first) ≡ Err e
   rows_bad e new' lt h =
       let less : assets - a ≡ suc (assets - (a + 1)) = omega arith in
@@ -135,7 +135,7 @@ module _ (scenarios assets : ℕ) (first : List ℕ) (old : List ℤ) (a : ℕ) 
         ∙ ap (drop (length zs)) (drop_at (flat zss) (drop (a * scenarios) old) (a * scenarios) s.wide)
         ∙ drop-drop (length zs) (a * scenarios) old
 
-    rows_step : Rows-sofar scenarios assets first old (a + 1) rest' new' (zss ++ zs ∷ [])
+    rows_step : RowsSofar scenarios assets first old (a + 1) rest' new' (zss ++ zs ∷ [])
     rows_step =
         let less : assets - a ≡ suc (assets - (a + 1)) = omega arith in
         let line : 7 + (a + 1) ≡ 7 + a + 1 = omega arith in
@@ -154,7 +154,7 @@ module _ (scenarios assets : ℕ) (first : List ℕ) (old : List ℤ) (a : ℕ) 
               ∙ ap (λ k. flat (zss ++ zs ∷ []) ++ drop k old) place;
         }
 
-  pub rows_next : (rest' : Bor (List ℕ)) (new' : List ℤ) → a < assets → AssetRead (asset_read scenarios (7 + a) (parted 10 rest)) new (a * scenarios) (Ok rest') new' → (zss' : List (List ℤ)) × Rows-sofar scenarios assets first old (a + 1) rest'.now new' zss'
+  pub rows_next : (rest' : Bor (List ℕ)) (new' : List ℤ) → a < assets → AssetRead (asset_read scenarios (7 + a) (parted 10 rest)) new (a * scenarios) (Ok rest') new' → (zss' : List (List ℤ)) × RowsSofar scenarios assets first old (a + 1) rest'.now new' zss'
   rows_next rest' new' lt h =
       let g = good_asset (asset_read scenarios (7 + a) (parted 10 rest)) new (a * scenarios) rest' new' h in
       (zss ++ g.0 ∷ [], rows_step rest'.now new' g.0 lt g.1 g.2)
@@ -172,7 +172,7 @@ module _ (scenarios : ℕ) (bytes first : List ℕ) (assets : ℕ) (counted : Ok
   pub sheet_bad : (old new : List ℤ) (e : Fault) → rows_read scenarios assets 7 (parted 10 first) ≡ Err e → SheetRead scenarios (sheet_read scenarios (parted 10 bytes)) old (Err e) new
   sheet_bad old new e h = subst (λ r. SheetRead scenarios r old (Err e) new) (sym (sheet_by h)) refl
 
-  pub sheet_good : (old new : List ℤ) (rest : Bor (List ℕ)) (zss : List (List ℤ)) → Rows-sofar scenarios assets first old assets rest.now new zss → SheetRead scenarios (sheet_read scenarios (parted 10 bytes)) old (Ok (assets, rest)) new
+  pub sheet_good : (old new : List ℤ) (rest : Bor (List ℕ)) (zss : List (List ℤ)) → RowsSofar scenarios assets first old assets rest.now new zss → SheetRead scenarios (sheet_read scenarios (parted 10 bytes)) old (Ok (assets, rest)) new
   sheet_good old new rest zss s =
       subst (λ r. SheetRead scenarios r old (Ok (assets, rest)) new) (sym (sheet_by (rows_all scenarios assets first old assets rest.now new zss s refl)))
       (sym s.count, refl, s.filled ∙ ap (λ k. flat zss ++ drop k old) (sym s.wide), s.wide)

@@ -1,4 +1,4 @@
--- Reading in steps, both ways: a lemma in -back takes what was read apart, and one in -made puts it together. Assumes nothing.
+-- Reading in steps, both ways: a lemma in _back takes what was read apart, and one in _made puts it together. Assumes nothing.
 use Rattle.std.proofs.Common.{◌≡◌, ℕ, ◌≤◌, Bool, true, false, cond, eqb, leb, ◌⊎◌, List, [], ◌∷◌, ◌++◌, Some, None, Ok, Err, codes, Option, Result, sym, refl, ap, ◌∙◌, subst, inl, inr, arith}
 use Rattle.std.proofs.lemmas.Bool.{eqb-true, leb-true, le-leb, and_parts, and_from}
 use Rattle.terms.specs.Limits.{within, last_member, last_segment, day_limit, most_scenarios}

@@ -15,7 +15,7 @@ pub without_append : (c : ℕ) (xs ys : List ℕ) → Without c xs → Without c
 without_append c [] ys h k = k
 without_append c (x ∷ xs) ys h k = (h.0, without_append c xs ys h.1 k)
 
--- Numbers: a lemma in -made reads what is written, and one in -back writes what was read
+-- Numbers: a lemma in _made reads what is written, and one in _back writes what was read
 pub plain_made : (n : ℕ) → Short n → plain_of (decimal n) ≡ Some n
 plain_made = number_written
 

@@ -92,8 +92,8 @@ module _ (means : List ℕ) where
 second_alone : (means : List ℕ) → length means ≡ 1 → second means ≡ 1
 second_alone [] e = absurd (omega arith)
 second_alone (x ∷ []) e =
-    let zero-first : first (x ∷ []) ≡ 0 = omega (arith, first_within (x ∷ []) (omega arith)) in
-    ap (λ (f : ℕ). pick f (cond (eqb f 0) 1 0) (get_or (x ∷ []) (cond (eqb f 0) 1 0) 0) 0 (x ∷ [])) zero-first
+    let zero_first : first (x ∷ []) ≡ 0 = omega (arith, first_within (x ∷ []) (omega arith)) in
+    ap (λ (f : ℕ). pick f (cond (eqb f 0) 1 0) (get_or (x ∷ []) (cond (eqb f 0) 1 0) 0) 0 (x ∷ [])) zero_first
 second_alone (x ∷ y ∷ xs) e = absurd (omega arith)
 
 in_list : (means : List ℕ) (k : ℕ) (b : Bool) → (is_in_list means k && b) ≡ true → (k < length means) × (b ≡ true)

@@ -1,7 +1,7 @@
 // The strike.
 
 ghost use Rattle.std.specs.Prelude.{◌≡◌, ℕ, ◌+◌, ◌<◌, ◌≤◌, length, IfOk, if◌then◌else◌, OnOk, slice_index};
-ghost use Rattle.sizing.specs.Meant.{means_of as meansList};
+ghost use Rattle.sizing.specs.Meant.{means_of as means_list};
 ghost use Rattle.strike.specs.Members.{place_of};
 ghost use Rattle.strike.specs.Promises.{AsksBounded};
 ghost use Rattle.strike.specs.Rows.{row_at, unasked};
@@ -30,7 +30,7 @@ fn tell<R: SizingRule>(
 )
     requires long { (length seats.now ≡ all_seats) × ((length rows.old ≡ all_members) × (length asks.now ≡ all_members)) }
     requires segment { IsSegment segment }
-    ensures { (m : ℕ) → IsMember m → row_at rows.new m ≡ (if (members_in seats.now segment).shares m then (record { ask = slice_index asks.now (place_of (members_in seats.now segment) m); marked = R.SizingRule.marking rule.now (meansList means.now) (place_of (members_in seats.now segment) m) }) else unasked) }
+    ensures { (m : ℕ) → IsMember m → row_at rows.new m ≡ (if (members_in seats.now segment).shares m then (record { ask = slice_index asks.now (place_of (members_in seats.now segment) m); marked = R.SizingRule.marking rule.now (means_list means.now) (place_of (members_in seats.now segment) m) }) else unasked) }
 {
     let mut n = 0;
     for m in 0..LAST_MEMBER {

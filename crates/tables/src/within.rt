@@ -8,12 +8,14 @@ use crate::records::Seat;
 use terms::limits::{AMOUNT_LIMIT, HELD_LIMIT, LAST_MEMBER, LAST_SEGMENT};
 use terms::{Class, Duty};
 
+/// Whether a member has this number.
 pub fn is_member(member: u64) -> bool
     ensures { Decides result (IsMember member) }
 {
     1 <= member && member <= LAST_MEMBER
 }
 
+/// Whether a segment has this number.
 pub fn is_segment(segment: u64) -> bool
     ensures { Decides result (IsSegment segment) }
 {

@@ -1,6 +1,6 @@
 use Rattle.std.proofs.Common.{◌≡◌, suc, [], subst, mul-le-mul_right, suc-mul, arith}
 use Rattle.terms.specs.Limits.{most_assets}
-use Rattle.dayfile.proofs.SheetRows.{Rows-sofar, rows_start, rows_next, rows_bad, sheet_good, sheet_bad}
+use Rattle.dayfile.proofs.SheetRows.{RowsSofar, rows_start, rows_next, rows_bad, sheet_good, sheet_bad}
 use Rattle.dayfile.proofs.sheets.sheet.Goals as goal
 
 pub loop-a-init : goal.loop-a-init
@@ -34,7 +34,7 @@ returns c =
     let all : c.loop-a.a ≡ c.in_ok-count.count = omega arith in
     record {
       is = sheet_good c.args.scenarios c.args.bytes.now c.in_ok-count.first.now c.in_ok-count.count c.in_ok-count.ensures.is c.args.out.now c.loop-a.out c.loop-a.rest c.loop-a.invariant.0.0
-          (subst (λ k. Rows-sofar c.args.scenarios c.in_ok-count.count c.in_ok-count.first.now c.args.out.now k c.loop-a.rest.now c.loop-a.out c.loop-a.invariant.0.0) all c.loop-a.invariant.0.1);
+          (subst (λ k. RowsSofar c.args.scenarios c.in_ok-count.count c.in_ok-count.first.now c.args.out.now k c.loop-a.rest.now c.loop-a.out c.loop-a.invariant.0.0) all c.loop-a.invariant.0.1);
       within = (few, omega (arith, mul-le-mul_right {m = c.in_ok-count.count} {n = most_assets} c.args.scenarios few, c.requires.0));
       less = c.loop-a.invariant.1;
     }

@@ -3,7 +3,7 @@ use Rattle.std.proofs.lemmas.List.{get_or-take, length-take-le}
 use Rattle.std.proofs.lemmas.Bool.{true≢false}
 use Rattle.sizing.specs.Lists.{AreMeans}
 use Rattle.sizing.specs.Marks.{Marking, size_of}
-use Rattle.sizing.specs.Meant.{means_of as meansList}
+use Rattle.sizing.specs.Meant.{means_of as means_list}
 use Rattle.sizing.specs.declared.means.Means.{Means}
 use Rattle.sizing.specs.Picks.{are_means}
 use Rattle.sizing.specs.Sizes.{size_at_most_sum}
@@ -35,7 +35,7 @@ returns-then-not-all_figured g c =
     record { is = (inr (c.if-not-is_book.ensures.0 refl, inr (c.if-not-is_segment.ensures.0 refl, inr (omega arith, inr (some, inr (c.if-not-all_paid.ensures.0 refl, inl ((λ h. true≢false (sym (c.if-not-all_figured.ensures.1 h))), refl)))))), (refl, refl)); bounded = tt; book = tt }
 
 -- the size that the rule answers is that of the segment's means
-fund_is : (x : Members) (marking : Marking) (M : Means) (list : List ℕ) (n size : ℕ) → (M.list ≡ list) × (M.count ≡ n) → take n list ≡ means_of x → size ≡ size_of (marking (meansList M)) (meansList M) → size ≡ fund_of x marking
+fund_is : (x : Members) (marking : Marking) (M : Means) (list : List ℕ) (n size : ℕ) → (M.list ≡ list) × (M.count ≡ n) → take n list ≡ means_of x → size ≡ size_of (marking (means_list M)) (means_list M) → size ≡ fund_of x marking
 fund_is x marking M list n size is em e = e ∙ ap (λ (l : List ℕ). size_of (marking l) l) (ap (λ (l : List ℕ). take M.count l) is.0 ∙ ap (λ (k : ℕ). take k list) is.1 ∙ em)
 
 pub returns-then-size-gt-FUND_LIMIT : goal.returns-then-size-gt-FUND_LIMIT
@@ -46,7 +46,7 @@ returns-then-size-gt-FUND_LIMIT g c =
 
 pub ask_all-requires : goal.ask_all-requires
 ask_all-requires g c =
-    let ms = meansList c.in-Some.means in
+    let ms = means_list c.in-Some.means in
     let n = c.gather-n.result in
     let mins = c.gather-n.new.minimums in
     let is = c.in-Some.ensures in
@@ -71,8 +71,8 @@ returns g c =
     let n = c.gather-n.result in
     let rows = c.tell.new.rows in
     let size = c.size-size.result in
-    let em : meansList M ≡ means_of x = ap (λ (l : List ℕ). take M.count l) is.0 ∙ ap (λ (k : ℕ). take k c.gather-n.new.means) is.1 ∙ ens.means in
-    let done : Told x marking size rows = told x marking size (meansList M) (take n c.gather-n.new.minimums) c.ask_all.new.asks rows em ens.minimums c.size-size.ensures (λ k l. c.ask_all.ensures k (omega (arith, is.1, ens.count))) (omega (arith, c.tell.auto.rows)) c.tell.ensures in
+    let em : means_list M ≡ means_of x = ap (λ (l : List ℕ). take M.count l) is.0 ∙ ap (λ (k : ℕ). take k c.gather-n.new.means) is.1 ∙ ens.means in
+    let done : Told x marking size rows = told x marking size (means_list M) (take n c.gather-n.new.minimums) c.ask_all.new.asks rows em ens.minimums c.size-size.ensures (λ k l. c.ask_all.ensures k (omega (arith, is.1, ens.count))) (omega (arith, c.tell.auto.rows)) c.tell.ensures in
     let book : Book t p = c.if-not-is_book.ensures.0 refl in
     let seg : IsSegment s = c.if-not-is_segment.ensures.0 refl in
     let some : 1 ≤ length (sharers x) = omega (arith, is.1, ens.count, M.bounded.0) in
