@@ -1,11 +1,10 @@
 -- Closing out: what it wants, in order, and what it leaves.
-use Rattle.std.specs.Prelude.{◌≡◌, ℕ, ◌<◌, ◌≤◌, List, [], ◌∷◌, map, length, ℤ, pos, negsuc, Result, slice_index, slice_index_or, unsigned_abs}
+use Rattle.std.specs.Prelude.{◌≡◌, ℕ, ◌<◌, ◌≤◌, List, [], ◌∷◌, map, length, sum, ℤ, pos, negsuc, Result, slice_index, slice_index_or, unsigned_abs}
 use Rattle.terms.specs.Limits.{most_positions, quantity_limit}
 use Rattle.terms.specs.Refusing.{Judged, Wants}
-use Rattle.terms.specs.Sums.{sum_to}
 use Rattle.terms.specs.declared.refusals.Refusal.{Refusal}
 use Rattle.terms.specs.declared.refusals.Refusal.TheVariants as refusals
-use Rattle.share.specs.Split.{part_at, weight_in}
+use Rattle.share.specs.Split.{part_at}
 
 -- the size of a position of the sign opposite to the quantity's, and 0 of any other
 abbrev pub contrary_of : ℤ → ℤ → ℕ
@@ -22,7 +21,7 @@ contraries quantity positions = map (contrary_of quantity) positions
 
 -- the contrary contracts together
 abbrev pub contrary_sum : ℤ → List ℤ → ℕ
-contrary_sum quantity positions = sum_to (length (contraries quantity positions)) (weight_in (contraries quantity positions))
+contrary_sum quantity positions = sum (contraries quantity positions)
 
 abbrev pub closing_wants : ℤ → List ℤ → List ℕ → Wants
 closing_wants quantity positions parts =

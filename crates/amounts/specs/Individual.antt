@@ -1,6 +1,6 @@
 -- The individual amounts: what they want, in order, and what they are.
 use Rattle.std.specs.Prelude.{◌≡◌, ℕ, ◌-◌, ◌*◌, ◌≤◌, Bool, true, cond, [], ◌∷◌, is_some, MatchBool, Result}
-use Rattle.terms.specs.Classes.{class_of}
+use Rattle.terms.specs.Classes.{class_of, owes}
 use Rattle.terms.specs.Limits.{amount_limit, equity_parts}
 use Rattle.terms.specs.Refusing.{Judged, Wants}
 use Rattle.terms.specs.declared.classes.Duty.TheVariants as duties
@@ -8,7 +8,6 @@ use Rattle.terms.specs.declared.refusals.Refusal.{Refusal}
 use Rattle.terms.specs.declared.refusals.Refusal.TheVariants as refusals
 use Rattle.amounts.specs.declared.given.Given.{Given}
 use Rattle.amounts.specs.declared.given.Individual.{Individual}
-use Rattle.amounts.specs.Treasury.{owes}
 
 -- every number is at most 1,000,000,000
 pub record Small (g : Given) : Type 0 where

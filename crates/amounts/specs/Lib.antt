@@ -1,4 +1,3 @@
 pub mod Treasury
 pub mod Individual
 pub mod Closing
-pub mod Sizes

@@ -1,10 +1,8 @@
 -- The treasury amount: what it wants, in order, and what it is.
-use Rattle.std.specs.Prelude.{◌≡◌, ℕ, max, Bool, true, false, List, [], ◌∷◌, Some, None, Option, Result}
-use Rattle.terms.specs.Classes.{class_of, owed}
+use Rattle.std.specs.Prelude.{◌≡◌, ℕ, max, true, List, [], ◌∷◌, Result}
+use Rattle.terms.specs.Classes.{owes}
 use Rattle.terms.specs.Limits.{treasury_floor}
 use Rattle.terms.specs.Refusing.{Judged, Wants}
-use Rattle.terms.specs.declared.classes.Class.{Class}
-use Rattle.terms.specs.declared.classes.Duty.{Duty}
 use Rattle.terms.specs.declared.classes.Duty.TheVariants as duties
 use Rattle.terms.specs.declared.refusals.Refusal.{Refusal}
 use Rattle.terms.specs.declared.refusals.Refusal.TheVariants as refusals
@@ -13,14 +11,6 @@ use Rattle.tables.specs.Writing.{mean_of}
 use Rattle.tables.specs.declared.records.Pledges.{Pledges}
 use Rattle.tables.specs.declared.records.Seat.{Seat}
 use Rattle.fund.specs.Calls.{Has}
-
-abbrev pub owes_by : Option Class → Duty → Bool
-owes_by None duty = false
-owes_by (Some class) duty = owed class duty
-
--- the class of this number owes the duty
-abbrev pub owes : ℕ → Duty → Bool
-owes class duty = owes_by (class_of class) duty
 
 abbrev pub treasury_wants : List Seat → List Pledges → ℕ → ℕ → Wants
 treasury_wants t p m s =

@@ -1,11 +1,10 @@
 // Closing out a defaulter's position.
 
 ghost use Rattle.std.specs.Prelude.{◌≡◌, ℕ, ◌<◌, ◌≤◌, length, pos, Decides, slice_index_or};
-ghost use Rattle.amounts.specs.Closing.{CloseOut, WithinQuantity, contrary_of, contrary_sum};
-ghost use Rattle.amounts.specs.Sizes.{size_in};
+ghost use Rattle.amounts.specs.Closing.{CloseOut, WithinQuantity, contraries, contrary_of};
 ghost use Rattle.terms.specs.Limits.{most_positions, quantity_limit};
 
-use crate::contrary::Contrary;
+use arrayvec::ArrayVec;
 use share::within::{split, whole};
 use terms::Refusal;
 use terms::limits::{MOST_POSITIONS, QUANTITY_LIMIT};
@@ -14,16 +13,10 @@ use terms::limits::{MOST_POSITIONS, QUANTITY_LIMIT};
 fn contrary(quantity: i64, position: i64) -> u64
     ensures { result ≡ contrary_of quantity position }
 {
-    if quantity < 0 {
-        if position < 0 {
-            return 0;
-        }
-        return position.unsigned_abs();
+    if (quantity < 0) == (position < 0) {
+        return 0;
     }
-    if position < 0 {
-        return position.unsigned_abs();
-    }
-    0
+    position.unsigned_abs()
 }
 
 fn is_within(quantity: i64) -> bool
@@ -35,54 +28,44 @@ fn is_within(quantity: i64) -> bool
 fn all_within(positions: &[i64]) -> bool
     ensures { Decides result ((k : ℕ) → k < length positions.now → WithinQuantity (slice_index_or positions.now k (pos 0))) }
 {
-    for p in positions {
-        if !is_within(*p) {
-            return false;
-        }
-    }
-    true
+    positions.iter().all(|position| is_within(*position))
 }
 
 // The contrary sizes of the positions, in their order.
-fn measure(quantity: i64, positions: &[i64], sizes: &mut [Contrary])
-    requires { length positions.now ≤ length sizes.old }
-    ensures { (k : ℕ) → k < length positions.now → size_in sizes.new k ≡ contrary_of quantity (slice_index_or positions.now k (pos 0)) }
+fn contraries(quantity: i64, positions: &[i64]) -> ArrayVec<u64, MOST_POSITIONS>
+    requires { length positions.now ≤ most_positions }
+    ensures { result.items ≡ contraries quantity positions.now }
 {
-    for i in 0..positions.len() {
-        sizes[i] = Contrary {
-            size: contrary(quantity, positions[i]),
-        };
+    let mut sizes = ArrayVec::new();
+    for position in positions {
+        sizes.push(contrary(quantity, *position));
     }
+    sizes
 }
 
 /// Closes out a defaulter's quantity: splits it, unsigned, over the positions of the opposite sign by their sizes; the others get 0.
 ///
 /// Refuses, in this order: parts and positions that differ in number; more than 64 positions, or one beyond ±10,000,000; a quantity of 0 or
 /// beyond that; too few contrary contracts.
+#[tactic(auto, using(crate::proofs::Closed::whole_small, crate::proofs::Closed::not_0))]
 pub fn close_out(quantity: i64, positions: &[i64], parts: &mut [u64]) -> Result<(), Refusal>
     ensures { CloseOut quantity positions.now parts.old result parts.new }
 {
     if parts.len() != positions.len() {
         return Err(Refusal::Lengths);
     }
-    if positions.len() > MOST_POSITIONS {
+    if positions.len() > MOST_POSITIONS || !all_within(positions) {
         return Err(Refusal::Positions);
     }
-    if !all_within(positions) {
-        return Err(Refusal::Positions);
-    }
-    if quantity == 0 {
+    if quantity == 0 || !is_within(quantity) {
         return Err(Refusal::Amount);
     }
-    if !is_within(quantity) {
-        return Err(Refusal::Amount);
-    }
-    let mut sizes = [Contrary { size: 0 }; MOST_POSITIONS];
-    measure(quantity, positions, &mut sizes);
+    let contraries = contraries(quantity, positions);
+    let sizes = contraries.as_slice();
     let size = quantity.unsigned_abs();
-    if size > whole(&sizes[..positions.len()]) {
+    if size > whole(sizes) {
         return Err(Refusal::TooMuch);
     }
-    split(size, &sizes[..positions.len()], parts);
+    split(size, sizes, parts);
     Ok(())
 }

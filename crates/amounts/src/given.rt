@@ -13,7 +13,7 @@ pub struct Given {
 }
 
 /// The four individual amounts.
-#[derive(Clone, Copy, PartialEq, Eq, Debug)]
+#[derive(Clone, Copy, PartialEq, Eq, Debug, Default)]
 pub struct Individual {
     pub minimum: u64,
     pub above_lri: u64,

@@ -1,76 +1,80 @@
 // The individual amounts.
 
 ghost use Rattle.amounts.specs.Individual.{EquityFits, IndividualAmounts, Small, amounts_of, owing, zeros};
-ghost use Rattle.std.specs.Prelude.{◌≡◌, ◌-◌, ◌≤◌, is_some, Decides};
+ghost use Rattle.std.specs.Prelude.{◌≡◌, ℕ, ◌-◌, ◌<◌, ◌≤◌, length, is_some, Decides, slice_index};
 ghost use Rattle.terms.specs.Classes.{class_of};
+ghost use Rattle.terms.specs.Limits.{amount_limit};
 
 use crate::given::{Given, Individual};
 use terms::limits::{AMOUNT_LIMIT, EQUITY_PARTS};
 use terms::{Class, Duty, Refusal};
 
-fn are_small(given: Given) -> bool
-    ensures { Decides result (Small given) }
+// One call of the library's `all`, as the columns of a tally have: a function for both would be no shorter than either.
+fn all_small(numbers: &[u64]) -> bool
+    ensures { Decides result ((k : ℕ) → k < length numbers.now → slice_index numbers.now k ≤ amount_limit) }
 {
-    given.minimum <= AMOUNT_LIMIT
-        && given.lri <= AMOUNT_LIMIT
-        && given.lri_use <= AMOUNT_LIMIT
-        && given.lmc <= AMOUNT_LIMIT
-        && given.lmc_use <= AMOUNT_LIMIT
-        && given.required <= AMOUNT_LIMIT
-        && given.equity <= AMOUNT_LIMIT
+    numbers.iter().all(|number| *number <= AMOUNT_LIMIT)
 }
 
-// What a number is above a limit.
-fn above(use_of: u64, limit: u64) -> u64
-    ensures { result ≡ use_of - limit }
-{
-    if use_of > limit { use_of - limit } else { 0 }
-}
+impl Given {
+    fn is_small(&self) -> bool
+        ensures { Decides result (Small self.now) }
+    {
+        all_small(&[
+            self.minimum,
+            self.lri,
+            self.lri_use,
+            self.lmc,
+            self.lmc_use,
+            self.required,
+            self.equity,
+        ])
+    }
 
-fn equity_fits(given: Given) -> bool
-    requires { Small given }
-    ensures { Decides result (EquityFits given) }
-{
-    EQUITY_PARTS * above(given.required, given.equity) <= given.required
-}
+    // What the equity is short of.
+    fn shortfall(&self) -> u64
+        ensures { result ≡ self.now.required - self.now.equity }
+    {
+        self.required.saturating_sub(self.equity)
+    }
 
-fn amounts(given: Given) -> Individual
-    ensures { result ≡ amounts_of given }
-{
-    Individual {
-        minimum: given.minimum,
-        above_lri: above(given.lri_use, given.lri),
-        above_lmc: above(given.lmc_use, given.lmc),
-        equity: above(given.required, given.equity),
+    fn equity_fits(&self) -> bool
+        requires { Small self.now }
+        ensures { Decides result (EquityFits self.now) }
+    {
+        EQUITY_PARTS * self.shortfall() <= self.required
+    }
+
+    fn amounts(&self) -> Individual
+        ensures { result ≡ amounts_of self.now }
+    {
+        Individual {
+            minimum: self.minimum,
+            above_lri: self.lri_use.saturating_sub(self.lri),
+            above_lmc: self.lmc_use.saturating_sub(self.lmc),
+            equity: self.shortfall(),
+        }
     }
 }
-
-const ZEROS: Individual = Individual {
-    minimum: 0,
-    above_lri: 0,
-    above_lmc: 0,
-    equity: 0,
-};
 
 /// The four individual amounts of a member of this class: the minimum, the use above each of the two risk limits, and the shortfall
 /// of equity. A class that owes none answers zeros.
 ///
 /// Refuses, in this order: an unknown class; a number above 1,000,000,000; for a class that owes them, equity that is short by more
 /// than a tenth of what is required.
+// The class comes as a number, since the call has to turn down a number that is no class's.
 pub fn individual_amounts(class: u64, given: Given) -> Result<Individual, Refusal>
     ensures { IndividualAmounts class given result }
 {
-    let Some(known) = Class::numbered(class) else {
-        return Err(Refusal::WrongClass);
-    };
-    if !are_small(given) {
+    let class = Class::try_from(class)?;
+    if !given.is_small() {
         return Err(Refusal::Amount);
     }
-    if !known.owes(Duty::IndividualAmounts) {
-        return Ok(ZEROS);
+    if !class.owes(Duty::IndividualAmounts) {
+        return Ok(Individual::default());
     }
-    if !equity_fits(given) {
+    if !given.equity_fits() {
         return Err(Refusal::EquityShort);
     }
-    Ok(amounts(given))
+    Ok(given.amounts())
 }

@@ -2,7 +2,6 @@
 #![tactic(auto)]
 
 pub mod closing;
-pub mod contrary;
 pub mod given;
 pub mod individual;
 pub mod treasury;

@@ -1,23 +1,10 @@
-// The treasury amount.
+// The treasury amount. The tables come as two slices of their owner's, and member and segment as plain numbers, each to be refused by itself.
 
-ghost use Rattle.amounts.specs.Treasury.{TreasuryAmount, owes};
-ghost use Rattle.terms.specs.declared.classes.Duty.TheVariants.{TreasuryAmount as treasury_duty};
-ghost use Rattle.std.specs.Prelude.{◌≡◌};
+ghost use Rattle.amounts.specs.Treasury.{TreasuryAmount};
 
-use tables::within::{is_member, is_segment, place_of};
-use tables::{Pledges, Seat, is_book};
+use tables::{Pledges, Seat, Tables};
 use terms::limits::TREASURY_FLOOR;
-use terms::{Class, Duty, Refusal};
-
-// Whether the class of this number owes the treasury amount.
-fn owes_treasury(class: u64) -> bool
-    ensures { result ≡ owes class treasury_duty }
-{
-    match Class::numbered(class) {
-        None => false,
-        Some(class) => class.owes(Duty::TreasuryAmount),
-    }
-}
+use terms::{Duty, Member, Refusal, Segment};
 
 /// The treasury amount of a member's seat in a segment: the larger of its mean and 700,000.
 ///
@@ -30,20 +17,11 @@ pub fn treasury_amount(
 ) -> Result<u64, Refusal>
     ensures { TreasuryAmount seats.now pledges.now member segment result }
 {
-    if !is_book(seats, pledges) {
-        return Err(Refusal::NoBook);
-    }
-    if !is_member(member) {
-        return Err(Refusal::Member);
-    }
-    if !is_segment(segment) {
-        return Err(Refusal::Segment);
-    }
-    let seat = seats[place_of(member, segment)];
-    if seat.class == 0 {
-        return Err(Refusal::NoSeat);
-    }
-    if !owes_treasury(seat.class) {
+    let tables = Tables::read(seats, pledges)?;
+    let member = Member::numbered(member).ok_or(Refusal::Member)?;
+    let segment = Segment::numbered(segment).ok_or(Refusal::Segment)?;
+    let seat = tables.taken_seat(member, segment)?;
+    if !seat.owes(Duty::TreasuryAmount) {
         return Err(Refusal::Exempt);
     }
     Ok(seat.mean().max(TREASURY_FLOOR))

@@ -1,13 +1,13 @@
 -- The bounds of asks, over any minimums, means, size and rounding step. Assumes nothing.
-use Rattle.std.proofs.Common.{◌≡◌, ℕ, ◌+◌, ◌-◌, ◌*◌, ◌<◌, ◌≤◌, max, ltb, List, length, get_or, sym, refl, ap, ◌∙◌, subst, ⊎_elim, mul-le-mul_right, mul_comm, add-mul, lt_of_mul-lt-mul_right, mul-one, mul-add, le_of_mul-le-mul_right, arith}
+use Rattle.std.proofs.Common.{◌≡◌, ℕ, ◌+◌, ◌-◌, ◌*◌, ◌<◌, ◌≤◌, max, List, length, get_or, sym, refl, ap, ◌∙◌, subst, ⊎_elim, mul-le-mul_right, mul_comm, add-mul, lt_of_mul-lt-mul_right, mul-one, mul-add, zero-mul, le_of_mul-le-mul_right, arith}
 use native.Mathlib.Nat.{mul-lt-mul_of_pos_left}
 use Rattle.std.proofs.lemmas.List.FromFn.{get_or-map-range_with_len, length-map-range_with_len}
-use Rattle.std.proofs.lemmas.Bool.{cases_lt, cond-true, cond-false, lt-ltb, le-ltb}
+use Rattle.std.proofs.lemmas.Bool.{cases_lt}
 use Rattle.terms.specs.Limits.{rounding_step}
 use Rattle.terms.specs.Rounding.{rounded_to, up}
 use Rattle.terms.specs.Sums.{sum_to}
 use Rattle.terms.proofs.Adding.{sum_to_add, sum_to_const, sum_to_le, sum_to_mul, sum_to_mul_left, sum_to_same}
-use Rattle.terms.proofs.Dividing.{rounded_high, rounded_low, rounded_mono, up_least, up_lower, up_upper}
+use Rattle.terms.proofs.Dividing.{rounded_high, rounded_low, rounded_mono, up_least, up_lower, up_of_zero, up_upper}
 use Rattle.sizing.specs.Lists.{sum_of}
 use Rattle.asks.specs.Steps.{above_of, above_sum, ask_at, asks_of, contribution_of, quota_at}
 use Rattle.asks.specs.Bounds.{AsksWithinBounds, NeverAskedMore, WithinBounds, most_asked}
@@ -64,26 +64,29 @@ module _ (F n R A E : ℕ) (mn mean : ℕ → ℕ) (eR : R ≡ sum_to n mean) (e
   due : ℕ → ℕ
   due k = contribution_of F A E (up (F * mean k) R) (mn k)
 
-  due_over : A < F → (k : ℕ) → due k ≡ mn k + added k
+  due_is : (k : ℕ) → due k ≡ mn k + added k
   unfolding due added
-  due_over over k = contribution_is F A E (up (F * mean k) R) (mn k) ∙ ap (λ (x : ℕ). mn k + x) (cond-true (ltb A F) _ 0 (lt-ltb A F over))
+  due_is k = contribution_is F A E (up (F * mean k) R) (mn k)
 
   due_under : F ≤ A → (k : ℕ) → due k ≡ mn k
-  unfolding due
-  due_under under k = contribution_is F A E (up (F * mean k) R) (mn k) ∙ ap (λ (x : ℕ). mn k + x) (cond-false (ltb A F) _ 0 (le-ltb A F under)) ∙ omega arith
+  unfolding added
+  due_under under k =
+      let y = up (F * mean k) R - mn k in
+      let none : F - A ≡ 0 = omega arith in
+      omega (arith, due_is k, ap (λ (x : ℕ). up (x * y) E) none, ap (λ (x : ℕ). up x E) (zero-mul y), up_of_zero E)
 
   due_low : (k : ℕ) → mn k ≤ due k
-  due_low k = ⊎_elim (λ (o : A < F). omega (arith, due_over o k)) (λ (u : F ≤ A). omega (arith, due_under u k)) (cases_lt A F)
+  due_low k = omega (arith, due_is k)
 
   due_high : (k : ℕ) → due k ≤ max (mn k) (mean k)
   due_high k =
       let q = quota_at_most_mean F R (mean k) small in
-      ⊎_elim (λ (o : A < F). omega (arith, due_over o k, added_at_most o k, q)) (λ (u : F ≤ A). omega (arith, due_under u k)) (cases_lt A F)
+      ⊎_elim (λ (o : A < F). omega (arith, due_is k, added_at_most o k, q)) (λ (u : F ≤ A). omega (arith, due_under u k)) (cases_lt A F)
 
   due_sum : 0 < n → (max F A ≤ sum_to n due) × (sum_to n due < max F A + n)
   due_sum some = ⊎_elim
       (λ (o : A < F).
-      let e : sum_to n due ≡ A + sum_to n added = sum_to_same n due (λ k. mn k + added k) (λ k l. due_over o k) ∙ sum_to_add n mn added ∙ ap (λ (x : ℕ). x + sum_to n added) (sym eA) in
+      let e : sum_to n due ≡ A + sum_to n added = sum_to_same n due (λ k. mn k + added k) (λ k l. due_is k) ∙ sum_to_add n mn added ∙ ap (λ (x : ℕ). x + sum_to n added) (sym eA) in
       (omega (arith, e, added_low o), omega (arith, e, added_high o some)))
       (λ (u : F ≤ A).
       let e : sum_to n due ≡ A = sum_to_same n due mn (λ k l. due_under u k) ∙ sym eA in

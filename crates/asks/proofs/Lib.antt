@@ -1,2 +1,3 @@
 pub mod OneMember
 pub mod Bounding
+pub mod Sums

@@ -2,7 +2,6 @@
 #![tactic(auto)]
 
 pub mod clause;
-mod steps;
 pub mod within;
 
 pub use clause::{asks_within_bounds, most_asked};

@@ -1,64 +1,129 @@
 // Helpers for the strike. They ask for what a book has, and are no part of the interface.
 
-ghost use Rattle.std.specs.Prelude.{◌≡◌, ℕ, ◌<◌, ◌≤◌, length, slice_index};
-ghost use Rattle.asks.specs.Steps.{AreMinimums, above_sum, ask_at};
+ghost use Rattle.std.specs.Prelude.{◌≡◌, ◌+◌, ◌*◌, ◌<◌, ◌^◌, ◌≤◌, length, sum};
+ghost use Rattle.asks.specs.Steps.{AreMinimums, above_sum, ask_at, contribution_of, quota_of};
 ghost use Rattle.sizing.specs.Lists.{sum_of};
 ghost use Rattle.sizing.specs.Meant.{means_of};
-ghost use Rattle.terms.specs.Limits.{all_members, fund_limit};
+ghost use Rattle.terms.specs.Limits.{figure_limit, fund_limit, minimum_limit};
 
-use crate::steps::{contribution, quota, round_up};
 use sizing::means::Means;
+use terms::limits::ROUNDING_STEP;
+use terms::rounding::divided_up;
 
-fn sum_of_means(means: &Means) -> u64
-    ensures { result ≡ sum_of (means_of means.now) }
-{
-    let mut sum = 0;
-    for i in 0..means.count() {
-        sum += means.at(i);
-    }
-    sum
+/// The members that share in a segment: their means, and their minimums at the same places.
+#[derive(Clone, Copy)]
+pub struct Sharers<'a> {
+    means: Means<'a>,
+    minimums: &'a [u64],
+    ghost alike: { AreMinimums minimums.now (length (means_of means)) },
 }
 
-fn sum_of_minimums(minimums: &[u64]) -> u64
-    requires { (AreMinimums minimums.now (length minimums.now)) × (length minimums.now ≤ all_members) }
-    ensures { result ≡ sum_of minimums.now }
-{
-    let mut sum = 0;
-    for minimum in minimums {
-        sum += *minimum;
+impl<'a> Sharers<'a> {
+    /// Members with these means and these minimums.
+    pub fn of(means: Means<'a>, minimums: &'a [u64]) -> Self
+        requires { AreMinimums minimums.now (length (means_of means)) }
+        ensures means { result.means ≡ means.entry }
+        ensures minimums { result.minimums ≡ minimums.entry }
+    {
+        Sharers { means, minimums }
     }
-    sum
-}
 
-// What the quotas of those that are not excluded have above their minimums, together.
-fn sum_above(size: u64, total: u64, means: &Means, minimums: &[u64]) -> u64
-    requires { (size ≤ fund_limit) × ((size ≤ total) × ((total ≡ sum_of (means_of means.now)) × (AreMinimums minimums.now means.now.count))) }
-    ensures { result ≡ above_sum size minimums.now (means_of means.now) }
-{
-    let mut sum = 0;
-    for i in 0..means.count() {
-        let q = quota(size, total, means.at(i));
-        let minimum = minimums[i];
-        if minimum < q {
-            sum += q - minimum;
+    /// A fund of this size, for which they are asked.
+    #[tactic(auto, using(crate::proofs::Sums::sum_is, crate::proofs::Sums::sum_fits))]
+    pub fn fund(&self, size: u64) -> Fund<'a>
+        requires small { size ≤ fund_limit }
+        requires covered { size ≤ sum_of (means_of self.now.means) }
+        ensures sharers { result.sharers ≡ self.now }
+        ensures size { result.quotas.size ≡ size }
+    {
+        let quotas = Quotas {
+            size,
+            total: total(self.means.as_slice()),
+        };
+        Fund {
+            sharers: *self,
+            quotas,
+            least: total(self.minimums),
+            above: self.above(&quotas),
         }
     }
-    sum
+
+    // What the quotas of those that are not excluded have above their minimums, together.
+    #[tactic(auto, using(terms::proofs::Adding::sum_to_none, terms::proofs::Adding::sum_to_more, crate::proofs::OneMember::above_is))]
+    fn above(&self, quotas: &Quotas) -> u64
+        requires { quotas.now.total ≡ sum_of (means_of self.now.means) }
+        ensures { result ≡ above_sum quotas.now.size self.now.minimums.now (means_of self.now.means) }
+    {
+        let mut sum = 0;
+        for (mean, minimum) in self.means.as_slice().iter().zip(self.minimums) {
+            sum += quotas.of(*mean).saturating_sub(*minimum);
+        }
+        sum
+    }
 }
 
-/// What is asked of the members, by place, for a fund of this size.
-pub fn ask_all(size: u64, means: &Means, minimums: &[u64], asks: &mut [u64])
-    requires small { size ≤ fund_limit }
-    requires covered { size ≤ sum_of (means_of means.now) }
-    requires minimums { AreMinimums minimums.now means.now.count }
-    requires room { means.now.count ≤ length asks.old }
-    ensures { (k : ℕ) → k < means.now.count → slice_index asks.new k ≡ ask_at size minimums.now (means_of means.now) k }
-{
-    let total = sum_of_means(means);
-    let least = sum_of_minimums(minimums);
-    let above = sum_above(size, total, means, minimums);
-    for i in 0..means.count() {
-        let q = quota(size, total, means.at(i));
-        asks[i] = round_up(contribution(size, least, above, q, minimums[i]));
+// The members' parts of a fund of this size, where their means add to `total`.
+#[derive(Clone, Copy)]
+struct Quotas {
+    size: u64,
+    total: u64,
+    ghost small: { size ≤ fund_limit },
+    ghost covered: { size ≤ total },
+}
+
+impl Quotas {
+    // The quota of a member with this mean.
+    fn of(&self, mean: u64) -> u64
+        requires { mean ≤ figure_limit }
+        ensures is { result ≡ quota_of self.now.size self.now.total mean }
+        ensures within { result ≤ mean }
+    {
+        divided_up(self.size * mean, self.total)
     }
+}
+
+/// A fund of some size, for which its sharers are asked.
+#[derive(Clone, Copy)]
+pub struct Fund<'a> {
+    sharers: Sharers<'a>,
+    quotas: Quotas,
+    // The minimums together.
+    least: u64,
+    // What the quotas have above the minimums, together.
+    above: u64,
+    ghost total_is: { quotas.total ≡ sum_of (means_of sharers.means) },
+    ghost least_is: { least ≡ sum_of sharers.minimums.now },
+    ghost above_is: { above ≡ above_sum quotas.size sharers.minimums.now (means_of sharers.means) },
+}
+
+impl<'a> Fund<'a> {
+    /// What is asked of the member at a place; past the list, of a mean and a minimum of 0.
+    pub fn ask(&self, place: usize) -> u64
+        ensures { result ≡ ask_at self.now.quotas.size self.now.sharers.minimums.now (means_of self.now.sharers.means) place }
+    {
+        let quota = self.quotas.of(self.sharers.means.at(place));
+        let minimum = self.sharers.minimums.get(place).copied().unwrap_or(0);
+        self.contribution(quota, minimum)
+            .next_multiple_of(ROUNDING_STEP)
+    }
+
+    // A contribution before it is rounded. Subtraction that stops at 0 leaves the minimum alone where the quota is not above it,
+    // and where the minimums reach the size.
+    #[tactic(auto, using(crate::proofs::OneMember::contribution_is, crate::proofs::OneMember::added_fits))]
+    fn contribution(&self, quota: u64, minimum: u64) -> u64
+        requires { (quota ≤ figure_limit) × (minimum ≤ minimum_limit) }
+        ensures is { result ≡ contribution_of self.now.quotas.size self.now.least self.now.above quota minimum }
+        ensures within { result ≤ fund_limit * figure_limit + minimum_limit }
+    {
+        let short = self.quotas.size.saturating_sub(self.least);
+        minimum + divided_up(short * quota.saturating_sub(minimum), self.above)
+    }
+}
+
+// What the numbers add to. A function of its own, since inside `fund` the check finds no bound of such a sum.
+fn total(list: &[u64]) -> u64
+    requires { sum list.now < 2 ^ 64 }
+    ensures { result ≡ sum list.now }
+{
+    list.iter().sum()
 }

@@ -6,7 +6,7 @@ ghost use Rattle.std.specs.Prelude.{◌<◌, length, IfSome};
 
 use dayfile::read;
 use dayreport::{Report, report};
-use figures::Position;
+use figures::{Figure, Position};
 use std::io;
 use std::io::{Read, Write};
 use terms::limits::{MOST_CHANGES, MOST_POSITIONS};
@@ -15,24 +15,16 @@ use terms::limits::{MOST_CHANGES, MOST_POSITIONS};
 fn first_file<'a>(bytes: &'a [u8]) -> Option<(&'a [u8], &'a [u8])>
     ensures { IfSome result (λ p. length p.1.now < length bytes.now) }
 {
-    for i in 0..bytes.len() {
-        if let [b'=', b'=', b'\n', rest @ ..] = &bytes[i..] {
-            return Some((&bytes[0..i], rest));
-        }
-    }
-    None
+    let end = bytes
+        .windows(3)
+        .position(|three| matches!(three, [b'=', b'=', b'\n']))?;
+    Some((&bytes[..end], &bytes[end + 3..]))
 }
 
 fn told(file: &[u8]) -> Report {
     let mut changes = [0; MOST_CHANGES];
-    let mut positions = [Position {
-        asset: 0,
-        quantity: 0,
-    }; MOST_POSITIONS];
-    match read(file, &mut changes, &mut positions) {
-        Ok(figure) => report(Ok(figure.set_aside())),
-        Err(fault) => report(Err(fault)),
-    }
+    let mut positions = [Position::default(); MOST_POSITIONS];
+    report(read(file, &mut changes, &mut positions).map(Figure::set_aside))
 }
 
 fn main(rt: HostRuntime) -> io::Result<()> {
@@ -63,13 +55,7 @@ mod tests {
 
     // The fault, if any; a figure is set aside.
     fn fault(file: &[u8], changes: &mut [i32], positions: &mut [Position]) -> Option<Fault> {
-        match read(file, changes, positions) {
-            Ok(figure) => {
-                let _ = figure.set_aside();
-                None
-            }
-            Err(fault) => Some(fault),
-        }
+        read(file, changes, positions).map(Figure::set_aside).err()
     }
 
     #[test]

@@ -1,13 +1,13 @@
 -- The sheet's lines, and the fields of positions and accounts, each both ways. Assumes nothing.
 use Rattle.std.proofs.Common.{◌≡◌, ℕ, zero, suc, ◌+◌, ◌≤◌, true, cond, List, [], ◌∷◌, ◌++◌, map, length, ℤ, nat_abs, Some, None, Ok, codes, Option, sym, refl, ap, ◌∙◌, subst, ⊎_elim, arith}
-use Rattle.std.specs.List.{AllByRecursion}
+use Rattle.std.specs.List.{list_all, AllByRecursion}
 use Rattle.std.proofs.lemmas.Bool.{eq-eqb, eqb-true, leb-true, le-leb, cases_Bool, and_parts, and_from}
 use Rattle.terms.specs.Limits.{within, most_assets, change_limit}
 use Rattle.figures.specs.declared.kinds.Kind.{Kind}
 use Rattle.figures.specs.declared.kinds.Kind.TheVariants.{Own, Client}
 use Rattle.figures.specs.declared.kinds.Account.{Account}
 use Rattle.figures.specs.declared.kinds.Position.{Position}
-use Rattle.figures.specs.Accounts.{every, change_ok}
+use Rattle.figures.specs.Accounts.{change_ok}
 use Rattle.daytext.specs.Text.{plain_of, signed_of, decimal, signed_text, Short, Parts, more, parted, glued, same}
 use Rattle.daytext.proofs.Numerals.{none_some}
 use Rattle.daytext.proofs.Texts.{plain_made, plain_back, signed_made, signed_back, parted_made, parted_back, same_back, decimal_without, signed_without, Without, ended}
@@ -55,13 +55,13 @@ parts_of [] h = absurd (omega arith)
 parts_of (z ∷ zs) h = ap (λ (p : Parts). p.0 ∷ p.1) (parted_made 44 (signed_text z) (map signed_text zs) (signed_without 44 z (omega arith)) (commaless zs))
 
 -- Changes
-pub small_back : (zs : List ℤ) → every change_ok zs ≡ true → AllByRecursion (λ z. nat_abs z ≤ change_limit) zs
+pub small_back : (zs : List ℤ) → list_all change_ok zs ≡ true → AllByRecursion (λ z. nat_abs z ≤ change_limit) zs
 small_back [] h = tt
-small_back (z ∷ zs) h = let p = and_parts (change_ok z) (every change_ok zs) h in (leb-true _ _ p.0, small_back zs p.1)
+small_back (z ∷ zs) h = let p = and_parts (change_ok z) (list_all change_ok zs) h in (leb-true _ _ p.0, small_back zs p.1)
 
-pub small_made : (zs : List ℤ) → AllByRecursion (λ z. nat_abs z ≤ change_limit) zs → every change_ok zs ≡ true
+pub small_made : (zs : List ℤ) → AllByRecursion (λ z. nat_abs z ≤ change_limit) zs → list_all change_ok zs ≡ true
 small_made [] h = refl
-small_made (z ∷ zs) h = and_from (change_ok z) (every change_ok zs) (le-leb _ _ h.0) (small_made zs h.1)
+small_made (z ∷ zs) h = and_from (change_ok z) (list_all change_ok zs) (le-leb _ _ h.0) (small_made zs h.1)
 
 shorts_from : (zs : List ℤ) → AllByRecursion (λ z. nat_abs z ≤ change_limit) zs → Shorts zs
 shorts_from [] h = tt

@@ -1,8 +1,8 @@
 -- The whole file by its parts, and the answer that is made of them. Assumes nothing.
-use Rattle.std.proofs.Common.{◌≡◌, ℕ, ◌+◌, ◌-◌, ◌*◌, ◌≤◌, true, false, cond, leb, List, [], ◌++◌, length, take, drop, ℤ, pos, None, Ok, Err, Result, sym, refl, ap, ◌∙◌, subst, Bor}
-use native.Mathlib.Nat.{sub-zero}
+use Rattle.std.proofs.Common.{◌≡◌, ℕ, ◌+◌, ◌*◌, ◌≤◌, true, false, cond, leb, List, [], ◌++◌, length, take, drop, ℤ, pos, None, Ok, Err, Result, sym, refl, ap, ◌∙◌, subst}
 use Rattle.std.proofs.lemmas.List.{take_at}
-use Rattle.std.proofs.lemmas.Bool.{le-leb}
+use Rattle.std.specs.Result.{is_err}
+use Rattle.std.proofs.lemmas.Bool.{le-leb, true≢false}
 use Rattle.terms.specs.Limits.{most_changes, most_file_bytes, most_positions}
 use Rattle.terms.specs.Refusing.{first_refusal}
 use Rattle.terms.specs.declared.refusals.Refusal.TheVariants as refusals
@@ -15,6 +15,7 @@ use Rattle.daytext.specs.Text.{Parts, parted}
 use Rattle.dayreport.specs.declared.faults.Fault.{Fault}
 use Rattle.dayreport.specs.declared.faults.Fault.TheVariants.{Line}
 use Rattle.dayfile.specs.declared.head.Head.{Head}
+use Rattle.dayfile.specs.declared.lines.Lines.{Lines}
 use Rattle.dayfile.specs.Days.{Day, Entry, Good, Rule, figure_of, flat, taking, tallied, written, zeros}
 use Rattle.dayfile.specs.Reading.{◌>>=◌, ◌>>◌, head_read, headed, lines_read, reading, run, sheet_read}
 use Rattle.dayfile.specs.Outcome.{DayRead, Exactly, Outcome, answer_of, changes_after, figured, lengths_ok, nothing_held, padded, positions_after}
@@ -39,22 +40,13 @@ module _ (bytes : List ℕ) (short : length bytes ≤ most_file_bytes) where
   by_lines : {r : Result (Head × Parts) Fault} → head_read (parted 10 bytes) ≡ r → reading bytes ≡ by_head r
   by_lines e = want_made (leb (length bytes) most_file_bytes) _ _ (le-leb _ _ short) (ap by_head e)
 
-  pub lines_bad : (e : Fault) → lines_read (parted 10 bytes) ≡ Err e → reading bytes ≡ Err e
-  lines_bad e h = by_lines (ap (λ (r : Result (Head × Parts) Fault). ◌>>=◌ r (λ x. ◌>>◌ (headed (first_refusal (heading_tests x.0.member x.0.segment x.0.day x.0.scenarios))) (Ok x))) h)
-
   module _ (h : Head) (rest : List ℕ) (lines : lines_read (parted 10 bytes) ≡ Ok (h, parted 10 rest)) where
     by_test : {u : Result (Unit {0}) Fault} → headed (first_refusal (heading_tests h.member h.segment h.day h.scenarios)) ≡ u → head_read (parted 10 bytes) ≡ ◌>>◌ u (Ok (h, parted 10 rest))
     by_test e = then_made (lines_read (parted 10 bytes)) _ (h, parted 10 rest) lines (ap (λ u. ◌>>◌ u (Ok (h, parted 10 rest))) e)
 
-    pub heading_bad : (e : Fault) → headed (first_refusal (heading_tests h.member h.segment h.day h.scenarios)) ≡ Err e → reading bytes ≡ Err e
-    heading_bad e g = by_lines (by_test g)
-
     module _ (good : headed (first_refusal (heading_tests h.member h.segment h.day h.scenarios)) ≡ Ok tt) where
       by_rows : {r : Result (List (List ℤ) × Parts) Fault} → sheet_read h.scenarios (parted 10 rest) ≡ r → reading bytes ≡ by_sheet h r
       by_rows e = by_lines (by_test good) ∙ ap (by_sheet h) e
-
-      pub sheet_bad : (e : Fault) → sheet_read h.scenarios (parted 10 rest) ≡ Err e → reading bytes ≡ Err e
-      sheet_bad e g = by_rows g
 
       module _ (zss : List (List ℤ)) (q : Parts) (sheet : sheet_read h.scenarios (parted 10 rest) ≡ Ok (zss, q)) where
         pub body_bad : (e : Fault) → run (taking h.scenarios (flat zss)) [] zeros None (7 + length zss) q ≡ Err e → reading bytes ≡ Err e
@@ -63,20 +55,15 @@ module _ (bytes : List ℕ) (short : length bytes ≤ most_file_bytes) where
         pub body_good : (es : List Entry) → run (taking h.scenarios (flat zss)) [] zeros None (7 + length zss) q ≡ Ok es → reading bytes ≡ Ok (record { head = h; sheet = zss; accounts = es })
         body_good es g = by_rows sheet ∙ ap (by_body h zss) g
 
--- what the sheet's and the body's functions answered
-pub sheet_fault : (n : ℕ) (r : Result (List (List ℤ) × Parts) Fault) (old : List ℤ) (e : Fault) (new : List ℤ) → SheetRead n r old (Err e) new → r ≡ Err e
-sheet_fault n (Ok x) old e new h = absurd h
-sheet_fault n (Err f) old e new h = ap Err (sym h)
-
 pub record Filled (n : ℕ) (r : Result (List (List ℤ) × Parts) Fault) (old : List ℤ) (k : ℕ) (rest : List ℕ) (new : List ℤ) (zss : List (List ℤ)) : Type 0 where
   pub is : r ≡ Ok (zss, parted 10 rest)
   pub assets : k ≡ length zss
   pub front : new ≡ flat zss ++ drop (length (flat zss)) old
   pub wide : length (flat zss) ≡ k * n
 
-pub sheet_filled : (n : ℕ) (r : Result (List (List ℤ) × Parts) Fault) (old : List ℤ) (k : ℕ) (rest : Bor (List ℕ)) (new : List ℤ) → SheetRead n r old (Ok (k, rest)) new → (zss : List (List ℤ)) × Filled n r old k rest.now new zss
-sheet_filled n (Ok x) old k rest new h = (x.0, record { is = ap (λ q. Ok (x.0, q)) (sym h.1); assets = h.0; front = h.2; wide = h.3 })
-sheet_filled n (Err f) old k rest new h = absurd h
+pub sheet_filled : (n : ℕ) (r : Result (List (List ℤ) × Parts) Fault) (old : List ℤ) (k : ℕ) (l : Lines) (new : List ℤ) → SheetRead n r old (Ok k) l new → (zss : List (List ℤ)) × Filled n r old k l.rest.now new zss
+sheet_filled n (Ok x) old k l new h = (x.0, record { is = ap (λ q. Ok (x.0, q)) (sym h.1); assets = h.0; front = h.2; wide = h.3 })
+sheet_filled n (Err f) old k l new h = absurd h
 
 pub body_fault : (add : Rule) (columns : List ℕ) (r : Result (List Entry) Fault) (e : Fault) (held : List Position) (new : List ℕ) → BodyRead add columns r (Err e) held new → r ≡ Err e
 body_fault add columns (Ok x) e held new h = absurd h
@@ -96,8 +83,8 @@ body_at n n' sheet sheet' columns columns' first first' p r held new a b c d h =
     (subst (λ x. BodyRead (taking n sheet) columns (run (taking n sheet) [] columns None x p) r held new) d h)))
 
 -- the front of the caller's list is the sheet
-pub sheet_front : {n : ℕ} {r : Result (List (List ℤ) × Parts) Fault} {old : List ℤ} {k : ℕ} {rest : List ℕ} {new : List ℤ} {zss : List (List ℤ)} → Filled n r old k rest new zss → take (k * n - 0) new ≡ flat zss
-sheet_front {n} {r} {old} {k} {rest} {new} {zss} f = ap (λ j. take j new) (sub-zero (k * n)) ∙ ap (take (k * n)) f.front ∙ take_at (flat zss) (drop (length (flat zss)) old) (k * n) f.wide
+pub sheet_front : {n : ℕ} {r : Result (List (List ℤ) × Parts) Fault} {old : List ℤ} {k : ℕ} {rest : List ℕ} {new : List ℤ} {zss : List (List ℤ)} → Filled n r old k rest new zss → take (k * n) new ≡ flat zss
+sheet_front {n} {r} {old} {k} {rest} {new} {zss} f = ap (take (k * n)) f.front ∙ take_at (flat zss) (drop (length (flat zss)) old) (k * n) f.wide
 
 -- the day is told by its figure, sheet and last positions
 pub day_told : (bytes : List ℕ) (d : Day) (f : Figure) (changes : List ℤ) (positions : List Position) → reading bytes ≡ Ok d → numbers_of f ≡ figure_of d → changes ≡ padded (pos 0) most_changes (flat d.sheet) → positions ≡ padded nothing_held most_positions (last_of d.accounts) → DayRead (reading bytes) (Ok f) changes positions
@@ -105,13 +92,6 @@ day_told bytes d f changes positions e a b c = subst (λ y. DayRead y (Ok f) cha
 
 -- What is left to the caller.
 module _ (bytes : List ℕ) (changes : List ℤ) (positions : List Position) where
-  pub lengths_bad : lengths_ok changes positions ≡ false → Outcome bytes changes positions (Err (Line refusals.Lengths 1)) changes positions
-  lengths_bad no' = record {
-    answer = sym (ap (λ b. cond b (figured (reading bytes)) (Err (Line refusals.Lengths 1))) no');
-    sheet = sym (ap (λ b. cond b (changes_after (reading bytes)) changes) no');
-    last = sym (ap (λ b. cond b (positions_after (reading bytes)) positions) no');
-  }
-
   module _ (ok : lengths_ok changes positions ≡ true) where
     outcome_by : (r : Result Figure Fault) (changes' : List ℤ) (positions' : List Position) → answer_of r ≡ figured (reading bytes) → changes' ≡ changes_after (reading bytes) → positions' ≡ positions_after (reading bytes) → Outcome bytes changes positions r changes' positions'
     outcome_by r changes' positions' a b c = record {
@@ -120,14 +100,14 @@ module _ (bytes : List ℕ) (changes : List ℤ) (positions : List Position) whe
       last = c ∙ sym (ap (λ t. cond t (positions_after (reading bytes)) positions) ok);
     }
 
-    pub read_good : (f : Figure) (changes' : List ℤ) (positions' : List Position) → DayRead (reading bytes) (Ok f) changes' positions' → Outcome bytes changes positions (Ok f) changes' positions'
+    read_good : (f : Figure) (changes' : List ℤ) (positions' : List Position) → DayRead (reading bytes) (Ok f) changes' positions' → Outcome bytes changes positions (Ok f) changes' positions'
     read_good f changes' positions' h = outcome_by (Ok f) changes' positions' (told_good (reading bytes) h).0 (told_good (reading bytes) h).1 (told_good (reading bytes) h).2
       where
         told_good : (d : Result Day Fault) → DayRead d (Ok f) changes' positions' → (answer_of (Ok f) ≡ figured d) × (changes' ≡ changes_after d) × (positions' ≡ positions_after d)
         told_good (Ok d) g = (ap Ok g.0, g.1, g.2)
         told_good (Err e) g = absurd g
 
-    pub read_bad : (e : Fault) (some : List ℤ) (held : List Position) (changes' : List ℤ) (positions' : List Position) → DayRead (reading bytes) (Err e) some held → changes' ≡ padded (pos 0) most_changes [] → positions' ≡ padded nothing_held most_positions [] → Outcome bytes changes positions (Err e) changes' positions'
+    read_bad : (e : Fault) (some : List ℤ) (held : List Position) (changes' : List ℤ) (positions' : List Position) → DayRead (reading bytes) (Err e) some held → changes' ≡ padded (pos 0) most_changes [] → positions' ≡ padded nothing_held most_positions [] → Outcome bytes changes positions (Err e) changes' positions'
     read_bad e some held changes' positions' h a b =
         let is : reading bytes ≡ Err e = told_bad (reading bytes) h in
         outcome_by (Err e) changes' positions' (ap figured (sym is)) (a ∙ ap changes_after (sym is)) (b ∙ ap positions_after (sym is))
@@ -135,6 +115,15 @@ module _ (bytes : List ℕ) (changes : List ℤ) (positions : List Position) whe
         told_bad : (d : Result Day Fault) → DayRead d (Err e) some held → d ≡ Err e
         told_bad (Ok d) g = absurd g
         told_bad (Err f) g = ap Err (sym g)
+
+    -- the lists stay after a figure, and are cleared after a fault
+    pub read_left : (r : Result Figure Fault) (changes' : List ℤ) (positions' : List Position) → is_err r ≡ false → DayRead (reading bytes) r changes' positions' → Outcome bytes changes positions r changes' positions'
+    read_left (Ok f) changes' positions' e h = read_good f changes' positions' h
+    read_left (Err f) changes' positions' e h = absurd (true≢false e)
+
+    pub read_cleared : (r : Result Figure Fault) (some : List ℤ) (held : List Position) (changes' : List ℤ) (positions' : List Position) → is_err r ≡ true → DayRead (reading bytes) r some held → changes' ≡ padded (pos 0) most_changes [] → positions' ≡ padded nothing_held most_positions [] → Outcome bytes changes positions r changes' positions'
+    read_cleared (Ok f) some held changes' positions' e h a b = absurd (true≢false (sym e))
+    read_cleared (Err f) some held changes' positions' e h a b = read_bad f some held changes' positions' h a b
 
     -- the answer is that of a good day that writes the bytes
     pub exactly : (r : Result Figure Fault) (changes' : List ℤ) (positions' : List Position) → Outcome bytes changes positions r changes' positions' → Exactly bytes (answer_of r)

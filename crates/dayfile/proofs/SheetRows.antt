@@ -1,45 +1,26 @@
 -- The line of one asset, and the lines of all of them. Assumes nothing.
-use Rattle.std.proofs.Common.{◌≡◌, ℕ, suc, ◌+◌, ◌-◌, ◌*◌, ◌<◌, List, [], ◌∷◌, ◌++◌, length, take, drop, ℤ, Some, None, Ok, Err, codes, Option, Result, sym, refl, ap, ◌∙◌, subst, add-mul, one-mul, zero-mul, arith, Bor}
-use native.Mathlib.Nat.{sub-zero}
-use Rattle.std.proofs.lemmas.List.{append_assoc, append-nil, length-append, take_at, drop_at, drop-drop, flat_map_more}
+use Rattle.std.proofs.Common.{◌≡◌, ℕ, suc, ◌+◌, ◌-◌, ◌*◌, ◌<◌, ◌≤◌, List, [], ◌∷◌, ◌++◌, length, take, drop, ℤ, Ok, Err, codes, Result, sym, refl, ap, ◌∙◌, subst, add-mul, one-mul, mul-le-mul_right, suc-mul, length-drop, arith}
+use Rattle.std.proofs.lemmas.List.{append_assoc, append-nil, length-append, length-take-le, take_at, drop_at, drop-drop, flat_map_more}
 use Rattle.std.proofs.lemmas.Bool.{eqb-true}
 use Rattle.terms.specs.declared.refusals.Refusal.TheVariants as refusals
-use Rattle.daytext.specs.Text.{Parts, more, parted, after}
+use Rattle.daytext.specs.Text.{Parts, parted}
 use Rattle.dayreport.specs.declared.faults.Fault.{Fault}
 use Rattle.dayreport.specs.declared.faults.Fault.TheVariants.{Line}
+use Rattle.dayfile.specs.declared.lines.Lines.{Lines}
 use Rattle.dayfile.specs.Days.{flat}
 use Rattle.dayfile.specs.Reading.{◌>>=◌, given, next, numbers, changes, rows_read, assets_read, sheet_read}
 use Rattle.dayfile.specs.Seen.{RowRead, AssetRead, SheetRead, asset_read}
-use Rattle.dayfile.proofs.Steps.{err_ok, ok_same, then_cases, want_cases}
+use Rattle.dayfile.proofs.Steps.{err_ok, err_same, ok_same, then_cases, want_cases}
 
-err_same : {A B : Type 0} {e f : B} → ◌≡◌ {A = Result A B} (Err e) (Err f) → e ≡ f
-err_same p = cc
-
--- the answer of a line by what follows its key
-abbrev by_key : ℕ → ℕ → Parts → Option (List ℕ) → Result (List ℤ × Parts) Fault
-by_key scenarios n q o = ◌>>=◌ {A = List ℕ × Parts} (◌>>=◌ (given o (Line refusals.Key n)) (λ x. Ok (x, q))) (λ x. ◌>>=◌ (changes scenarios n x.0) (λ zs. Ok (zs, x.1)))
-
--- a line whose key was found answers by its changes
-asset_at : (scenarios n : ℕ) (p : Parts) (line : List ℕ) (q : Parts) (t : List ℕ) → p ≡ more line q → Some t ≡ after (codes "chg=") line → asset_read scenarios n p ≡ ◌>>=◌ (changes scenarios n t) (λ zs. Ok (zs, q))
-asset_at scenarios n p line q t e k =
-    ap (asset_read scenarios n) e
-    ∙ ap (by_key scenarios n q) (sym k)
-
-by_row : (r : Result (List ℤ) Fault) (q : Parts) (old : List ℤ) (at : ℕ) (new : List ℤ) (rest : Bor (List ℕ)) → parted 10 rest.now ≡ q → RowRead r old at None new → AssetRead (◌>>=◌ r (λ zs. Ok (zs, q))) old at (Ok rest) new
-by_row (Ok zs) q old at new rest e h = (e, h)
-by_row (Err f) q old at new rest e h = absurd h
-
-by_fault : (r : Result (List ℤ) Fault) (q : Parts) (old : List ℤ) (at : ℕ) (new : List ℤ) (f : Fault) → RowRead r old at (Some f) new → AssetRead (◌>>=◌ r (λ zs. Ok (zs, q))) old at (Err f) new
-by_fault (Ok zs) q old at new f h = absurd h
-by_fault (Err g) q old at new f h = h
-
-module _ (scenarios n : ℕ) (bytes line : List ℕ) (rest : Bor (List ℕ)) (t : List ℕ) (old : List ℤ) (at : ℕ) (new : List ℤ)
-    (cut : parted 10 bytes ≡ more line (parted 10 rest.now)) (key : Some t ≡ after (codes "chg=") line) where
-  pub asset_good : RowRead (changes scenarios n t) old at None new → AssetRead (asset_read scenarios n (parted 10 bytes)) old at (Ok rest) new
-  asset_good h = subst (λ r. AssetRead r old at (Ok rest) new) (sym (asset_at scenarios n (parted 10 bytes) line (parted 10 rest.now) t cut key)) (by_row (changes scenarios n t) (parted 10 rest.now) old at new rest refl h)
-
-  pub asset_bad : (f : Fault) → RowRead (changes scenarios n t) old at (Some f) new → AssetRead (asset_read scenarios n (parted 10 bytes)) old at (Err f) new
-  asset_bad f h = subst (λ r. AssetRead r old at (Err f) new) (sym (asset_at scenarios n (parted 10 bytes) line (parted 10 rest.now) t cut key)) (by_fault (changes scenarios n t) (parted 10 rest.now) old at new f h)
+-- the line of an asset, once its text is found
+pub asset_told : (scenarios n : ℕ) (p : Parts) (t : List ℕ) (l : Lines) (row : List ℤ) (told : Result (Unit {0}) Fault) → Ok (t, parted 10 l.rest.now) ≡ next (codes "chg=") n p → RowRead (changes scenarios n t) told row → AssetRead (asset_read scenarios n p) told l row
+asset_told scenarios n p t l row told e h = subst (λ (x : Result (List ℕ × Parts) Fault). AssetRead (◌>>=◌ x (λ y. ◌>>=◌ (changes scenarios n y.0) (λ zs. Ok (zs, y.1)))) told l row) e (by_row (changes scenarios n t) told h)
+  where
+    by_row : (r : Result (List ℤ) Fault) (u : Result (Unit {0}) Fault) → RowRead r u row → AssetRead (◌>>=◌ r (λ zs. Ok (zs, parted 10 l.rest.now))) u l row
+    by_row (Ok zs) (Ok u) g = (refl, g)
+    by_row (Ok zs) (Err f) g = g
+    by_row (Err f) (Ok u) g = g
+    by_row (Err f) (Err k) g = g
 
 -- Answers by the line of an asset, and by the lines that follow.
 two_good : (r : Result (List ℕ × Parts) Fault) (c : List ℕ → Result (List ℤ) Fault) (k : List ℤ → Parts → Result (List (List ℤ) × Parts) Fault) (zs : List ℤ) (q : Parts) → ◌>>=◌ {B = List ℤ × Parts} r (λ t. ◌>>=◌ (c t.0) (λ x. Ok (x, t.1))) ≡ Ok (zs, q) → ◌>>=◌ r (λ t. ◌>>=◌ (c t.0) (λ x. k x t.1)) ≡ k zs q
@@ -80,6 +61,13 @@ asset_wide scenarios n p zs q h =
     let b : ws ≡ zs = ap (λ (x : List ℤ × Parts). x.0) (ok_same g₂) in
     sym (ap length (a ∙ b)) ∙ eqb-true _ _ count
 
+-- the row of an asset has a place for each scenario
+pub row_wide : (scenarios a most : ℕ) (out : List ℤ) → a < most → most * scenarios ≤ length out → length (take (a * scenarios + scenarios - a * scenarios) (drop (a * scenarios) out)) ≡ scenarios
+row_wide scenarios a most out lt room =
+    let within = mul-le-mul_right {m = suc a} {n = most} scenarios (omega arith) in
+    let fits : a * scenarios + scenarios ≤ length out = omega (arith, within, suc-mul a scenarios) in
+    length-take-le (a * scenarios + scenarios - a * scenarios) (drop (a * scenarios) out) (simp length-drop (omega (arith, fits))) ∙ omega arith
+
 -- What the loop over assets keeps.
 abbrev before : List (List ℤ) → Result (List (List ℤ) × Parts) Fault → Result (List (List ℤ) × Parts) Fault
 before zss (Ok r) = Ok (zss ++ r.0, r.1)
@@ -91,51 +79,38 @@ pub record RowsSofar (scenarios assets : ℕ) (first : List ℕ) (old : List ℤ
   pub wide : length (flat zss) ≡ a * scenarios
   pub filled : new ≡ flat zss ++ drop (a * scenarios) old
 
-before_none : (r : Result (List (List ℤ) × Parts) Fault) → before [] r ≡ r
-before_none (Ok x) = refl
-before_none (Err e) = refl
-
 before_more : (zss : List (List ℤ)) (zs : List ℤ) (r : Result (List (List ℤ) × Parts) Fault) → before (zss ++ zs ∷ []) r ≡ before zss (◌>>=◌ r (λ x. Ok (zs ∷ x.0, x.1)))
 before_more zss zs (Ok x) = ap (λ l. Ok (l, x.1)) (append_assoc zss (zs ∷ []) x.0)
 before_more zss zs (Err e) = refl
 
-pub rows_start : (scenarios assets : ℕ) (first : List ℕ) (old : List ℤ) → RowsSofar scenarios assets first old 0 first old []
-rows_start scenarios assets first old = record {
-  read = before_none _ ∙ ap (λ k. rows_read scenarios k 7 (parted 10 first)) (sub-zero assets);
-  count = refl;
-  wide = sym (zero-mul scenarios);
-  filled = ap (λ k. drop k old) (sym (zero-mul scenarios));
-}
-
 flat_more : (zss : List (List ℤ)) (zs : List ℤ) → flat (zss ++ zs ∷ []) ≡ flat zss ++ zs
 flat_more zss zs = sym (flat_map_more (λ (l : List ℤ). l) [] zss zs)
 
-good_asset : (r : Result (List ℤ × Parts) Fault) (old : List ℤ) (at : ℕ) (rest : Bor (List ℕ)) (new : List ℤ) → AssetRead r old at (Ok rest) new → (zs : List ℤ) × (r ≡ Ok (zs, parted 10 rest.now)) × (new ≡ (take at old ++ zs) ++ drop (at + length zs) old)
-good_asset (Ok x) old at rest new h = (x.0, ap (λ q. Ok (x.0, q)) (sym h.0), h.1)
-good_asset (Err e) old at rest new h = absurd h
+good_asset : (r : Result (List ℤ × Parts) Fault) (l : Lines) (row : List ℤ) → AssetRead r (Ok tt) l row → r ≡ Ok (row, parted 10 l.rest.now)
+good_asset (Ok x) l row h = (λ i. Ok (sym h.1 i, sym h.0 i))
+good_asset (Err e) l row h = absurd h
 
-bad_asset : (r : Result (List ℤ × Parts) Fault) (old : List ℤ) (at : ℕ) (e : Fault) (new : List ℤ) → AssetRead r old at (Err e) new → r ≡ Err e
-bad_asset (Ok x) old at e new h = absurd h
-bad_asset (Err f) old at e new h = ap Err (sym h)
+bad_asset : (r : Result (List ℤ × Parts) Fault) (e : Fault) (l : Lines) (row : List ℤ) → AssetRead r (Err e) l row → r ≡ Err e
+bad_asset (Ok x) e l row h = absurd h
+bad_asset (Err f) e l row h = ap Err (sym h)
 
 module _ (scenarios assets : ℕ) (first : List ℕ) (old : List ℤ) (a : ℕ) (rest : List ℕ) (new : List ℤ) (zss : List (List ℤ)) (s : RowsSofar scenarios assets first old a rest new zss) where
-  pub rows_bad : (e : Fault) (new' : List ℤ) → a < assets → AssetRead (asset_read scenarios (7 + a) (parted 10 rest)) new (a * scenarios) (Err e) new' → rows_read scenarios assets 7 (parted 10 first) ≡ Err e
-  rows_bad e new' lt h =
-      let less : assets - a ≡ suc (assets - (a + 1)) = omega arith in
-      sym s.read ∙ ap (λ k. before zss (rows_read scenarios k (7 + a) (parted 10 rest))) less
-      ∙ ap (before zss) (rows_by_bad scenarios (assets - (a + 1)) (7 + a) (parted 10 rest) e (bad_asset _ _ _ e new' h))
+  -- line m is that of asset a, and its row has n places
+  module _ (m n : ℕ) (at : m ≡ 7 + a) (lt : a < assets) (even : n ≡ scenarios) where
+    here : {r : Result (List ℤ × Parts) Fault} → asset_read n m (parted 10 rest) ≡ r → asset_read scenarios (7 + a) (parted 10 rest) ≡ r
+    here e = (λ i. asset_read (sym even i) (sym at i) (parted 10 rest)) ∙ e
 
-  module _ (rest' : List ℕ) (new' zs : List ℤ) (lt : a < assets) (e : asset_read scenarios (7 + a) (parted 10 rest) ≡ Ok (zs, parted 10 rest')) (f : new' ≡ (take (a * scenarios) new ++ zs) ++ drop (a * scenarios + length zs) new) where
-    place : a * scenarios + length zs ≡ (a + 1) * scenarios
-    place = omega (arith, asset_wide scenarios (7 + a) (parted 10 rest) zs (parted 10 rest') e, add-mul a 1 scenarios, one-mul scenarios)
+    pub rows_bad : (e : Fault) (l : Lines) (row : List ℤ) → AssetRead (asset_read n m (parted 10 rest)) (Err e) l row → rows_read scenarios assets 7 (parted 10 first) ≡ Err e
+    rows_bad e l row h =
+        let less : assets - a ≡ suc (assets - (a + 1)) = omega arith in
+        sym s.read ∙ ap (λ k. before zss (rows_read scenarios k (7 + a) (parted 10 rest))) less
+        ∙ ap (before zss) (rows_by_bad scenarios (assets - (a + 1)) (7 + a) (parted 10 rest) e (here (bad_asset _ e l row h)))
 
-    behind_both : drop (a * scenarios + length zs) (flat zss ++ drop (a * scenarios) old) ≡ drop (a * scenarios + length zs) old
-    behind_both =
-        sym (drop-drop (length zs) (a * scenarios) (flat zss ++ drop (a * scenarios) old))
-        ∙ ap (drop (length zs)) (drop_at (flat zss) (drop (a * scenarios) old) (a * scenarios) s.wide)
-        ∙ drop-drop (length zs) (a * scenarios) old
+  module _ (rest' : List ℕ) (zs : List ℤ) (k : ℕ) (lt : a < assets) (even : k ≡ scenarios) (e : asset_read scenarios (7 + a) (parted 10 rest) ≡ Ok (zs, parted 10 rest')) where
+    place : a * scenarios + k ≡ (a + 1) * scenarios
+    place = omega (arith, add-mul a 1 scenarios, one-mul scenarios)
 
-    rows_step : RowsSofar scenarios assets first old (a + 1) rest' new' (zss ++ zs ∷ [])
+    rows_step : RowsSofar scenarios assets first old (a + 1) rest' (take (a * scenarios) new ++ (zs ++ drop k (drop (a * scenarios) new))) (zss ++ zs ∷ [])
     rows_step =
         let less : assets - a ≡ suc (assets - (a + 1)) = omega arith in
         let line : 7 + (a + 1) ≡ 7 + a + 1 = omega arith in
@@ -146,18 +121,16 @@ module _ (scenarios assets : ℕ) (first : List ℕ) (old : List ℤ) (a : ℕ) 
               ∙ ap (λ k. before zss (rows_read scenarios k (7 + a) (parted 10 rest))) (sym less)
               ∙ s.read;
           count = simp length-append (omega (arith, s.count));
-          wide = ap length (flat_more zss zs) ∙ length-append (flat zss) zs ∙ ap (λ n. n + length zs) s.wide ∙ place;
-          filled = f
-              ∙ ap (λ l. (take (a * scenarios) l ++ zs) ++ drop (a * scenarios + length zs) l) s.filled
-              ∙ (λ i. (take_at (flat zss) (drop (a * scenarios) old) (a * scenarios) s.wide i ++ zs) ++ drop (a * scenarios + length zs) (flat zss ++ drop (a * scenarios) old))
-              ∙ (λ i. sym (flat_more zss zs) i ++ behind_both i)
-              ∙ ap (λ k. flat (zss ++ zs ∷ []) ++ drop k old) place;
+          wide = ap length (flat_more zss zs) ∙ length-append (flat zss) zs ∙ (λ i. s.wide i + (asset_wide scenarios (7 + a) (parted 10 rest) zs (parted 10 rest') e ∙ sym even) i) ∙ place;
+          filled = ap (λ l. take (a * scenarios) l ++ (zs ++ drop k (drop (a * scenarios) l))) s.filled
+              ∙ (λ i. take_at (flat zss) (drop (a * scenarios) old) (a * scenarios) s.wide i ++ (zs ++ drop k (drop_at (flat zss) (drop (a * scenarios) old) (a * scenarios) s.wide i)))
+              ∙ sym (append_assoc (flat zss) zs (drop k (drop (a * scenarios) old)))
+              ∙ (λ i. sym (flat_more zss zs) i ++ drop-drop k (a * scenarios) old i)
+              ∙ ap (λ j. flat (zss ++ zs ∷ []) ++ drop j old) place;
         }
 
-  pub rows_next : (rest' : Bor (List ℕ)) (new' : List ℤ) → a < assets → AssetRead (asset_read scenarios (7 + a) (parted 10 rest)) new (a * scenarios) (Ok rest') new' → (zss' : List (List ℤ)) × RowsSofar scenarios assets first old (a + 1) rest'.now new' zss'
-  rows_next rest' new' lt h =
-      let g = good_asset (asset_read scenarios (7 + a) (parted 10 rest)) new (a * scenarios) rest' new' h in
-      (zss ++ g.0 ∷ [], rows_step rest'.now new' g.0 lt g.1 g.2)
+  pub rows_next : (m n k : ℕ) (l : Lines) (row : List ℤ) → m ≡ 7 + a → a < assets → n ≡ scenarios → k ≡ scenarios → AssetRead (asset_read n m (parted 10 rest)) (Ok tt) l row → RowsSofar scenarios assets first old (a + 1) l.rest.now (take (a * scenarios) new ++ (row ++ drop k (drop (a * scenarios) new))) (zss ++ row ∷ [])
+  rows_next m n k l row at lt even w h = rows_step l.rest.now row k lt w (here m n at lt even (good_asset (asset_read n m (parted 10 rest)) l row h))
 
   pub rows_all : a ≡ assets → rows_read scenarios assets 7 (parted 10 first) ≡ Ok (zss, parted 10 rest)
   rows_all e =
@@ -166,13 +139,11 @@ module _ (scenarios assets : ℕ) (first : List ℕ) (old : List ℤ) (a : ℕ) 
 
 -- The whole sheet, by the count of assets and their lines.
 module _ (scenarios : ℕ) (bytes first : List ℕ) (assets : ℕ) (counted : Ok (assets, parted 10 first) ≡ assets_read (parted 10 bytes)) where
-  sheet_by : {r : Result (List (List ℤ) × Parts) Fault} → rows_read scenarios assets 7 (parted 10 first) ≡ r → sheet_read scenarios (parted 10 bytes) ≡ r
+  pub sheet_by : {r : Result (List (List ℤ) × Parts) Fault} → rows_read scenarios assets 7 (parted 10 first) ≡ r → sheet_read scenarios (parted 10 bytes) ≡ r
   sheet_by e = ap (λ (x : Result (ℕ × Parts) Fault). ◌>>=◌ x (λ y. rows_read scenarios y.0 7 y.1)) (sym counted) ∙ e
 
-  pub sheet_bad : (old new : List ℤ) (e : Fault) → rows_read scenarios assets 7 (parted 10 first) ≡ Err e → SheetRead scenarios (sheet_read scenarios (parted 10 bytes)) old (Err e) new
-  sheet_bad old new e h = subst (λ r. SheetRead scenarios r old (Err e) new) (sym (sheet_by h)) refl
-
-  pub sheet_good : (old new : List ℤ) (rest : Bor (List ℕ)) (zss : List (List ℤ)) → RowsSofar scenarios assets first old assets rest.now new zss → SheetRead scenarios (sheet_read scenarios (parted 10 bytes)) old (Ok (assets, rest)) new
-  sheet_good old new rest zss s =
-      subst (λ r. SheetRead scenarios r old (Ok (assets, rest)) new) (sym (sheet_by (rows_all scenarios assets first old assets rest.now new zss s refl)))
+  pub sheet_good : (old new : List ℤ) (l : Lines) (zss : List (List ℤ)) (a : ℕ) → a ≡ assets → RowsSofar scenarios assets first old a l.rest.now new zss → SheetRead scenarios (sheet_read scenarios (parted 10 bytes)) old (Ok assets) l new
+  sheet_good old new l zss a e sofar =
+      let s = subst (λ k. RowsSofar scenarios assets first old k l.rest.now new zss) e sofar in
+      subst (λ r. SheetRead scenarios r old (Ok assets) l new) (sym (sheet_by (rows_all scenarios assets first old assets l.rest.now new zss s refl)))
       (sym s.count, refl, s.filled ∙ ap (λ k. flat zss ++ drop k old) (sym s.wide), s.wide)

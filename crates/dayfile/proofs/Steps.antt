@@ -1,6 +1,6 @@
 -- Reading in steps, both ways: a lemma in _back takes what was read apart, and one in _made puts it together. Assumes nothing.
 use Rattle.std.proofs.Common.{◌≡◌, ℕ, ◌≤◌, Bool, true, false, cond, eqb, leb, ◌⊎◌, List, [], ◌∷◌, ◌++◌, Some, None, Ok, Err, codes, Option, Result, sym, refl, ap, ◌∙◌, subst, inl, inr, arith}
-use Rattle.std.proofs.lemmas.Bool.{eqb-true, leb-true, le-leb, and_parts, and_from}
+use Rattle.std.proofs.lemmas.Bool.{eq-eqb, eqb-true, leb-true, le-leb, and_parts, and_from}
 use Rattle.terms.specs.Limits.{within, last_member, last_segment, day_limit, most_scenarios}
 use Rattle.terms.specs.Refusing.{first_refusal}
 use Rattle.terms.specs.declared.refusals.Refusal.{Refusal}
@@ -18,6 +18,9 @@ use Rattle.dayfile.specs.Reading.{◌>>=◌, ◌>>◌, want, given, maybe, next,
 -- a fault is never an answer
 pub err_ok : {A B C : Type 0} {e : B} {a : A} → ◌≡◌ {A = Result A B} (Err e) (Ok a) → C
 err_ok p = let z : ◌≡◌ {A = ℕ} 0 1 = cc in absurd (omega arith)
+
+pub err_same : {A B : Type 0} {e f : B} → ◌≡◌ {A = Result A B} (Err e) (Err f) → e ≡ f
+err_same p = cc
 
 pub ok_same : {A B : Type 0} {a b : A} → ◌≡◌ {A = Result A B} (Ok a) (Ok b) → a ≡ b
 ok_same p = cc
@@ -152,6 +155,23 @@ first_lines_back p r g =
     subst (λ (x : Head × Parts). p ≡ ended (head_lines x.0) x.1) (ok_same g₆)
     (e₁ ∙ ap (λ k. more (codes "form=" ++ decimal k) p₁) (eqb-true f 1 one)
     ∙ ap (more (codes "form=" ++ decimal 1)) (e₂ ∙ ap (more (codes "member=" ++ decimal m)) (e₃ ∙ ap (more (codes "segment=" ++ decimal s)) (e₄ ∙ ap (more (codes "day=" ++ decimal d)) e₅))))
+
+-- what follows line k, where it was read as line n
+read_on : {B : Type 0} (key : List ℕ) (n k : ℕ) (p : Parts) (g : ℕ × Parts → Result B Fault) (x : Result (ℕ × Parts) Fault) {y : Result B Fault} → n ≡ k → x ≡ numbered key n p → ◌>>=◌ x g ≡ y → ◌>>=◌ (numbered key k p) g ≡ y
+read_on key n k p g x a e h = ap (λ j. ◌>>=◌ (numbered key j p) g) (sym a) ∙ ap (λ r. ◌>>=◌ r g) (sym e) ∙ h
+
+-- the fault of the third of the first lines, of the fourth and of the fifth
+module _ (p q₁ q₂ : Parts) (n₁ n₂ f m : ℕ) (a₁ : n₁ ≡ 1) (a₂ : n₂ ≡ 2) (one : f ≡ 1) (e₁ : Ok (f, q₁) ≡ numbered (codes "form=") n₁ p) (e₂ : Ok (m, q₂) ≡ numbered (codes "member=") n₂ q₁) (n₃ : ℕ) (a₃ : n₃ ≡ 3) where
+  pub third_bad : (e : Fault) → Err e ≡ numbered (codes "segment=") n₃ q₂ → Err e ≡ lines_read p
+  third_bad e h = sym (read_on (codes "form=") n₁ 1 p _ (Ok (f, q₁)) a₁ e₁ (want_made (eqb f 1) _ _ (eq-eqb f 1 one) (read_on (codes "member=") n₂ 2 q₁ _ (Ok (m, q₂)) a₂ e₂ (read_on (codes "segment=") n₃ 3 q₂ _ (Err e) a₃ h refl))))
+
+  module _ (q₃ : Parts) (s n₄ : ℕ) (a₄ : n₄ ≡ 4) (e₃ : Ok (s, q₃) ≡ numbered (codes "segment=") n₃ q₂) where
+    pub fourth_bad : (e : Fault) → Err e ≡ numbered (codes "day=") n₄ q₃ → Err e ≡ lines_read p
+    fourth_bad e h = sym (read_on (codes "form=") n₁ 1 p _ (Ok (f, q₁)) a₁ e₁ (want_made (eqb f 1) _ _ (eq-eqb f 1 one) (read_on (codes "member=") n₂ 2 q₁ _ (Ok (m, q₂)) a₂ e₂ (read_on (codes "segment=") n₃ 3 q₂ _ (Ok (s, q₃)) a₃ e₃ (read_on (codes "day=") n₄ 4 q₃ _ (Err e) a₄ h refl)))))
+
+    module _ (q₄ : Parts) (d n₅ : ℕ) (a₅ : n₅ ≡ 5) (e₄ : Ok (d, q₄) ≡ numbered (codes "day=") n₄ q₃) where
+      pub fifth_bad : (e : Fault) → Err e ≡ numbered (codes "scen=") n₅ q₄ → Err e ≡ lines_read p
+      fifth_bad e h = sym (read_on (codes "form=") n₁ 1 p _ (Ok (f, q₁)) a₁ e₁ (want_made (eqb f 1) _ _ (eq-eqb f 1 one) (read_on (codes "member=") n₂ 2 q₁ _ (Ok (m, q₂)) a₂ e₂ (read_on (codes "segment=") n₃ 3 q₂ _ (Ok (s, q₃)) a₃ e₃ (read_on (codes "day=") n₄ 4 q₃ _ (Ok (d, q₄)) a₄ e₄ (read_on (codes "scen=") n₅ 5 q₄ _ (Err e) a₅ h refl))))))
 
 pub first_lines_made : (h : Head) (q : Parts) → InLimits h → lines_read (ended (head_lines h) q) ≡ Ok (h, q)
 first_lines_made h q s =

@@ -1,7 +1,8 @@
 -- The turns of the loop over accounts and positions. Assumes nothing.
-use Rattle.std.proofs.Common.{◌≡◌, ℕ, ◌+◌, ◌<◌, ◌≤◌, Bool, true, false, cond, eqb, List, [], ◌∷◌, ◌++◌, length, take, set, ℤ, Some, None, Ok, Err, codes, Option, Result, sym, refl, ap, ◌∙◌, subst, ⊎_elim, arith, length-set, Bor}
-use Rattle.std.proofs.lemmas.List.{length-append, length-take-le, take_more_set}
-use Rattle.std.proofs.lemmas.Bool.{eq-eqb, ne_eqb, lt-ltb, le-ltb, cases_Bool}
+use Rattle.std.proofs.Common.{◌≡◌, ℕ, ◌+◌, ◌<◌, ◌≤◌, Bool, true, false, cond, eqb, List, [], ◌∷◌, ◌++◌, length, take, ℤ, Some, None, Ok, Err, codes, Option, Result, sym, refl, ap, ◌∙◌, subst, ⊎_elim, arith}
+use Rattle.std.proofs.lemmas.List.{length-append}
+use Rattle.std.proofs.lemmas.Bool.{eq-eqb, cases_Bool}
+use Rattle.std.specs.Option.{MatchOption}
 use Rattle.terms.specs.Limits.{most_positions}
 use Rattle.terms.specs.declared.refusals.Refusal.{Refusal}
 use Rattle.terms.specs.declared.refusals.Refusal.TheVariants as refusals
@@ -9,17 +10,13 @@ use Rattle.figures.specs.declared.kinds.Account.{Account}
 use Rattle.figures.specs.declared.kinds.Position.{Position}
 use Rattle.daytext.specs.Text.{Parts, more, parted, after, plain_of}
 use Rattle.daytext.proofs.Cuts.{after_none}
-use Rattle.daytext.proofs.Numerals.{none_some}
 use Rattle.dayreport.specs.declared.faults.Fault.{Fault}
-use Rattle.dayreport.specs.declared.faults.Fault.TheVariants.{Line, Tally}
+use Rattle.dayreport.specs.declared.faults.Fault.TheVariants.{Line}
 use Rattle.dayfile.specs.declared.body.Open.{Open}
-use Rattle.daykeys.specs.declared.keys.Row.{Row}
-use Rattle.daykeys.specs.declared.keys.Row.TheVariants as rows
 use Rattle.dayfile.specs.Days.{Entry, Rule, taking, or_before, tallied}
-use Rattle.dayfile.specs.Reading.{◌>>=◌, ◌>>◌, Hand, want, given, maybe, position_fields, account_fields, told, settled, nothing, run}
-use Rattle.daykeys.specs.KeyTexts.{RowIs}
-use Rattle.dayfile.specs.Seen.{hand_of, fault_by, refused_by, columns_by, last_of, BodyRead}
-use Rattle.dayfile.proofs.Steps.{then_made, given_made, want_made, some_same}
+use Rattle.dayfile.specs.Reading.{◌>>=◌, ◌>>◌, Hand, want, given, maybe, account_fields, told, settled, nothing, run}
+use Rattle.dayfile.specs.Seen.{closed_by, count_of, hand_of, judged, columns_by, last_of, BodyRead}
+use Rattle.dayfile.proofs.Steps.{err_ok, err_same, then_made, given_made, want_made}
 
 -- the lines that the loop reads, and where its tally began
 pub record Whole : Type 0 where
@@ -34,7 +31,6 @@ pub record State : Type 0 where
   pub n : ℕ
   pub begun : ℕ
   pub hand : Option Open
-  pub count : ℕ
   pub held : List Position
   pub columns : List ℕ
 
@@ -42,29 +38,26 @@ abbrev pub answer : Whole → Result (List Entry) Fault
 answer w = run w.add [] w.columns None w.first (parted 10 w.bytes)
 
 abbrev pub in_hand : State → Option Hand
-in_hand x = hand_of x.hand (take x.count x.held)
+in_hand x = hand_of x.hand x.held
 
 abbrev ones : Option Open → ℕ
 ones None = 0
 ones (Some o) = 1
 
-abbrev Start : Option Open → List Entry → ℕ → Type 0
-Start None done count = (done ≡ []) × (count ≡ 0)
-Start (Some o) done count = Unit {0}
+abbrev Start : Option Open → List Entry → Type 0
+Start None done = done ≡ []
+Start (Some o) done = Unit {0}
 
 -- what is left gives the answer of the whole
 pub record Sofar (w : Whole) (x : State) (done : List Entry) : Type 0 where
   pub same : run w.add done x.columns (in_hand x) x.n (parted 10 x.rest) ≡ answer w
   pub tally : x.columns ≡ tallied w.add w.columns done
   pub counted : x.begun ≡ length done + ones x.hand
-  pub few : x.count ≤ most_positions
+  pub few : count_of x.hand ≤ most_positions
   pub long : length x.held ≡ most_positions
   pub room : x.n + length x.rest ≤ w.first + length w.bytes
   pub less : x.begun + w.first ≤ x.n
-  pub start : Start x.hand done x.count
-
-pub sofar_none : (w : Whole) (held : List Position) → length held ≡ most_positions → Sofar w (record { rest = w.bytes; n = w.first; begun = 0; hand = None; count = 0; held = held; columns = w.columns }) []
-sofar_none w held h = record { same = refl; tally = refl; counted = refl; few = omega arith; long = h; room = omega arith; less = omega arith; start = (refl, refl) }
+  pub start : Start x.hand done
 
 -- steps that fail
 given_none : {A B : Type 0} (o : Option A) (e : Fault) (f : A → Result B Fault) → o ≡ None → ◌>>=◌ (given o e) f ≡ Err e
@@ -87,20 +80,20 @@ abbrev pub done_after : List Entry → Option Hand → List Entry
 done_after done None = done
 done_after done (Some h) = done ++ (h.entry ∷ [])
 
-by_good : (r : Result (List ℕ) Refusal) (n : ℕ) (columns : List ℕ) (all : List Entry) → None ≡ fault_by r n → ◌>>=◌ {B = List Entry × List ℕ} (told r n) (λ new. Ok (all, new)) ≡ Ok (all, or_before r columns)
+by_good : (r : Result (List ℕ) Refusal) (n : ℕ) (columns : List ℕ) (all : List Entry) → Ok tt ≡ judged (told r n) → ◌>>=◌ {B = List Entry × List ℕ} (told r n) (λ new. Ok (all, new)) ≡ Ok (all, or_before r columns)
 by_good (Ok new) n columns all h = refl
-by_good (Err e) n columns all h = none_some h
+by_good (Err e) n columns all h = err_ok (sym h)
 
-by_bad : (r : Result (List ℕ) Refusal) (n : ℕ) (all : List Entry) (f : Fault) → Some f ≡ fault_by r n → ◌>>=◌ {B = List Entry × List ℕ} (told r n) (λ new. Ok (all, new)) ≡ Err f
-by_bad (Ok new) n all f h = none_some (sym h)
-by_bad (Err e) n all f h = ap Err (sym (some_same h))
+by_bad : (r : Result (List ℕ) Refusal) (n : ℕ) (all : List Entry) (f : Fault) → Err f ≡ judged (told r n) → ◌>>=◌ {B = List Entry × List ℕ} (told r n) (λ new. Ok (all, new)) ≡ Err f
+by_bad (Ok new) n all f h = err_ok h
+by_bad (Err e) n all f h = ap Err (sym (err_same h))
 
-settled_ok : (add : Rule) (done : List Entry) (columns : List ℕ) (hand : Option Hand) → None ≡ refused_by add columns hand → settled add done columns hand ≡ Ok (done_after done hand, columns_by add columns hand)
+settled_ok : (add : Rule) (done : List Entry) (columns : List ℕ) (hand : Option Hand) → Ok tt ≡ closed_by add columns hand → settled add done columns hand ≡ Ok (done_after done hand, columns_by add columns hand)
 settled_ok add done columns None h = refl
 settled_ok add done columns (Some x) h = by_good (add columns x.entry) x.line columns (done ++ (x.entry ∷ [])) h
 
-settled_err : (add : Rule) (done : List Entry) (columns : List ℕ) (hand : Option Hand) (f : Fault) → Some f ≡ refused_by add columns hand → settled add done columns hand ≡ Err f
-settled_err add done columns None f h = none_some (sym h)
+settled_err : (add : Rule) (done : List Entry) (columns : List ℕ) (hand : Option Hand) (f : Fault) → Err f ≡ closed_by add columns hand → settled add done columns hand ≡ Err f
+settled_err add done columns None f h = err_ok h
 settled_err add done columns (Some x) f h = by_bad (add columns x.entry) x.line (done ++ (x.entry ∷ [])) f h
 
 tallied_more : (add : Rule) (columns : List ℕ) (done : List Entry) (e : Entry) → tallied add columns (done ++ (e ∷ [])) ≡ or_before (add (tallied add columns done) e) (tallied add columns done)
@@ -116,9 +109,14 @@ last_more [] e = refl
 last_more (d ∷ []) e = refl
 last_more (d ∷ f ∷ done) e = last_more (f ∷ done) e
 
-last_held : (hand : Option Open) (done : List Entry) (count : ℕ) (held : List Position) → Start hand done count → take count held ≡ last_of (done_after done (hand_of hand (take count held)))
-last_held None done count held s = ap (λ k. take k held) s.1 ∙ ap last_of (sym s.0)
-last_held (Some o) done count held s = sym (last_more done (record { account = o.account; positions = take count held }))
+last_held : (hand : Option Open) (done : List Entry) (held : List Position) → Start hand done → take (count_of hand) held ≡ last_of (done_after done (hand_of hand held))
+last_held None done held s = ap last_of (sym s)
+last_held (Some o) done held s = sym (last_more done (record { account = o.account; positions = take o.count held }))
+
+-- what is answered of the account in hand, or 0
+pub count_is : (Q : Open → Type 0) (hand : Option Open) (k : ℕ) → ((o : Open) → Q o → k ≡ o.count) → MatchOption hand (k ≡ 0) Q → k ≡ count_of hand
+count_is Q None k q m = m
+count_is Q (Some o) k q m = q o m
 
 length_after : (hand : Option Open) (done : List Entry) (ps : List Position) → length (done_after done (hand_of hand ps)) ≡ length done + ones hand
 length_after None done ps = omega arith
@@ -142,18 +140,13 @@ acc_not_pos l x e t h = let z : ◌≡◌ {A = ℕ} 97 112 = cc in omega arith
 pub end_not_pos : (l x : List ℕ) → l ≡ codes "end=" ++ x → (t : List ℕ) → l ≡ codes "pos=" ++ t → ⊥
 end_not_pos l x e t h = let z : ◌≡◌ {A = ℕ} 101 112 = cc in omega arith
 
-pub row_not_pos : (l : List ℕ) (r : Row) → RowIs l r → ((x : Bor (List ℕ)) → r ≡ rows.Position x → ⊥) → (t : List ℕ) → l ≡ codes "pos=" ++ t → ⊥
-row_not_pos l (rows.Position x) h no' = absurd (no' x refl)
-row_not_pos l (rows.Account x) h no' = acc_not_pos l x.now h
-row_not_pos l (rows.End x) h no' = end_not_pos l x.now h
-row_not_pos l rows.Other h no' = λ t. (h t).0
-
 -- the rule at the loop's start is the rule now, since the scenario count stays
-pub rule_kept : (now' start : ℕ) (sheet : List ℤ) (columns : List ℕ) (hand : Option Hand) (r : Option Fault) → now' ≡ start → r ≡ refused_by (taking now' sheet) columns hand → r ≡ refused_by (taking start sheet) columns hand
-rule_kept now' start sheet columns hand r e h = h ∙ ap (λ k. refused_by (taking k sheet) columns hand) e
+module _ (x : State) (start now' : ℕ) (sheet : List ℤ) (kept : now' ≡ start) where
+  pub rule_kept : {r : Result (Unit {0}) Fault} → r ≡ closed_by (taking now' sheet) x.columns (in_hand x) → r ≡ closed_by (taking start sheet) x.columns (in_hand x)
+  rule_kept h = h ∙ ap (λ k. closed_by (taking k sheet) x.columns (in_hand x)) kept
 
-pub columns_kept : (now' start : ℕ) (sheet : List ℤ) (columns : List ℕ) (hand : Option Hand) (new : List ℕ) → now' ≡ start → new ≡ columns_by (taking now' sheet) columns hand → new ≡ columns_by (taking start sheet) columns hand
-columns_kept now' start sheet columns hand new e h = h ∙ ap (λ k. columns_by (taking k sheet) columns hand) e
+  pub columns_kept : {new : List ℕ} → new ≡ columns_by (taking now' sheet) x.columns (in_hand x) → new ≡ columns_by (taking start sheet) x.columns (in_hand x)
+  columns_kept h = h ∙ ap (λ k. columns_by (taking k sheet) x.columns (in_hand x)) kept
 
 -- what a line that does not begin with pos= does, the account in hand being added
 abbrev other_line : Rule → List Entry → List ℕ → ℕ → List ℕ → Parts → Result (List Entry) Fault
@@ -166,79 +159,32 @@ module _ (w : Whole) (x : State) (done : List Entry) (s : Sofar w x done) where
   answered : {r : Result (List Entry) Fault} → run w.add done x.columns (in_hand x) x.n (parted 10 x.rest) ≡ r → answer w ≡ r
   answered e = sym s.same ∙ e
 
-  -- no line is left
-  module _ (alone : parted 10 x.rest ≡ (x.rest, [])) where
-    pub tail_pos : (t : List ℕ) → x.rest ≡ codes "pos=" ++ t → answer w ≡ Err (Line refusals.Key x.n)
-    tail_pos t e = answered (ap (run w.add done x.columns (in_hand x) x.n) (alone ∙ ap (λ (l : List ℕ). (l, [])) e))
-
-    pub tail_refused : ((t : List ℕ) → x.rest ≡ codes "pos=" ++ t → ⊥) → (f : Fault) → Some f ≡ refused_by w.add x.columns (in_hand x) → answer w ≡ Err f
-    tail_refused no' f h = answered (ap (run w.add done x.columns (in_hand x) x.n) alone ∙ maybe_none _ _ _ (after_none (codes "pos=") x.rest no') (then_none _ f _ (settled_err w.add done x.columns (in_hand x) f h)))
-
-    pub tail_missing : ((t : List ℕ) → x.rest ≡ codes "pos=" ++ t → ⊥) → None ≡ refused_by w.add x.columns (in_hand x) → answer w ≡ Err (Line refusals.Key x.n)
-    tail_missing no' h = answered (ap (run w.add done x.columns (in_hand x) x.n) alone ∙ maybe_none _ _ _ (after_none (codes "pos=") x.rest no') (then_made (settled w.add done x.columns (in_hand x)) _ _ (settled_ok w.add done x.columns (in_hand x) h) refl))
-
   -- a line, and what follows it
   module _ (line next : List ℕ) (cut : parted 10 x.rest ≡ more line (parted 10 next)) (shorter : length next < length x.rest) where
     at_line : (l : List ℕ) → line ≡ l → run w.add done x.columns (in_hand x) x.n (parted 10 x.rest) ≡ run w.add done x.columns (in_hand x) x.n (more l (parted 10 next))
     at_line l e = ap (run w.add done x.columns (in_hand x) x.n) (cut ∙ ap (λ y. more y (parted 10 next)) e)
 
-    module _ (t : List ℕ) (is : line ≡ codes "pos=" ++ t) where
-      pub pos_unheld : None ≡ x.hand → answer w ≡ Err (Line refusals.Key x.n)
-      pos_unheld e = answered (at_line _ is ∙ ap (λ h. run w.add done x.columns (hand_of h (take x.count x.held)) x.n (more (codes "pos=" ++ t) (parted 10 next))) (sym e))
-
-      module _ (o : Open) (has : x.hand ≡ Some o) where
-        at_pos : run w.add done x.columns (in_hand x) x.n (parted 10 x.rest) ≡ run w.add done x.columns (hand_of (Some o) (take x.count x.held)) x.n (more (codes "pos=" ++ t) (parted 10 next))
-        at_pos = at_line _ is ∙ ap (λ h. run w.add done x.columns (hand_of h (take x.count x.held)) x.n (more (codes "pos=" ++ t) (parted 10 next))) has
-
-        pub pos_bad : None ≡ position_fields (parted 44 t) → answer w ≡ Err (Line refusals.Field x.n)
-        pos_bad e = answered (at_pos ∙ given_none _ _ _ (sym e))
-
-        taken_long : length (take x.count x.held) ≡ x.count
-        taken_long = length-take-le x.count x.held (omega (arith, s.few, s.long))
-
-        pub pos_many : (p : Position) → Some p ≡ position_fields (parted 44 t) → x.count ≡ most_positions → answer w ≡ Err (Tally refusals.Positions o.line)
-        pos_many p e full = answered (at_pos ∙ given_made _ _ _ p (sym e) (want_none _ _ _ (le-ltb (length (take x.count x.held)) most_positions (omega (arith, taken_long)))))
-
-        pub pos_more : (p : Position) → Some p ≡ position_fields (parted 44 t) → (x.count ≡ most_positions → ⊥) → Sofar w (record { rest = next; n = x.n + 1; begun = x.begun; hand = x.hand; count = x.count + 1; held = set x.held x.count p; columns = x.columns }) done
-        pos_more p e room' =
-            let few' : x.count < most_positions = omega (arith, s.few, room') in
-            let long' : x.count < length x.held = omega (arith, s.long) in
-            record {
-              same = (λ i. run w.add done x.columns (hand_of (has i) (take_more_set x.held x.count p long' i)) (x.n + 1) (parted 10 next))
-                  ∙ sym (at_pos ∙ given_made _ _ _ p (sym e) (want_made _ _ _ (lt-ltb (length (take x.count x.held)) most_positions (omega (arith, taken_long))) refl)) ∙ s.same;
-              tally = s.tally;
-              counted = s.counted;
-              few = omega arith;
-              long = simp length-set s.long;
-              room = omega (arith, s.room);
-              less = omega (arith, s.less);
-              start = subst (λ h. Start h done (x.count + 1)) (sym has) tt;
-            }
-
     -- any other line: the account in hand is added first
     module _ (other : (t : List ℕ) → line ≡ codes "pos=" ++ t → ⊥) where
-      pub refused : (f : Fault) → Some f ≡ refused_by w.add x.columns (in_hand x) → answer w ≡ Err f
+      pub refused : (f : Fault) → Err f ≡ closed_by w.add x.columns (in_hand x) → answer w ≡ Err f
       refused f h = answered (at_line _ refl ∙ maybe_none _ _ _ (after_none (codes "pos=") line other) (then_none _ f _ (settled_err w.add done x.columns (in_hand x) f h)))
 
-      module _ (good : None ≡ refused_by w.add x.columns (in_hand x)) where
+      module _ (good : Ok tt ≡ closed_by w.add x.columns (in_hand x)) where
         added : {r : Result (List Entry) Fault} → other_line w.add (done_after done (in_hand x)) (columns_by w.add x.columns (in_hand x)) x.n line (parted 10 next) ≡ r → run w.add done x.columns (in_hand x) x.n (parted 10 x.rest) ≡ r
         added e = at_line _ refl ∙ maybe_none _ _ _ (after_none (codes "pos=") line other) (then_made (settled w.add done x.columns (in_hand x)) _ _ (settled_ok w.add done x.columns (in_hand x) good) e)
 
-        count_is : length (done_after done (in_hand x)) ≡ x.begun
-        count_is = length_after x.hand done (take x.count x.held) ∙ sym s.counted
+        begun_is : length (done_after done (in_hand x)) ≡ x.begun
+        begun_is = length_after x.hand done x.held ∙ sym s.counted
 
         by_text : {r : Result (List Entry) Fault} (l : List ℕ) → line ≡ l → other_line w.add (done_after done (in_hand x)) (columns_by w.add x.columns (in_hand x)) x.n l (parted 10 next) ≡ r → answer w ≡ r
         by_text l is e = answered (added (ap (λ y. other_line w.add (done_after done (in_hand x)) (columns_by w.add x.columns (in_hand x)) x.n y (parted 10 next)) is ∙ e))
 
         module _ (t : List ℕ) (is : line ≡ codes "acc=" ++ t) where
-          pub acc_bad : None ≡ account_fields (parted 44 t) → answer w ≡ Err (Line refusals.Field x.n)
-          acc_bad e = by_text _ is (given_none _ _ _ (sym e))
-
-          pub acc_more : (a : Account) → Some a ≡ account_fields (parted 44 t) → Sofar w (record { rest = next; n = x.n + 1; begun = x.begun + 1; hand = Some (record { line = x.n; account = a }); count = 0; held = x.held; columns = columns_by w.add x.columns (in_hand x) }) (done_after done (in_hand x))
+          pub acc_more : (a : Account) → Some a ≡ account_fields (parted 44 t) → Sofar w (record { rest = next; n = x.n + 1; begun = x.begun + 1; hand = Some (record { line = x.n; account = a; count = 0 }); held = x.held; columns = columns_by w.add x.columns (in_hand x) }) (done_after done (in_hand x))
           acc_more a e = record {
             same = sym (by_text _ is (given_made _ _ _ a (sym e) refl));
             tally = tallied_after w.add w.columns x.columns done (in_hand x) s.tally;
-            counted = omega (arith, count_is);
+            counted = omega (arith, begun_is);
             few = omega arith;
             long = s.long;
             room = omega (arith, s.room);
@@ -247,23 +193,17 @@ module _ (w : Whole) (x : State) (done : List Entry) (s : Sofar w x done) where
           }
 
         module _ (t : List ℕ) (is : line ≡ codes "end=" ++ t) where
-          pub end_bad : None ≡ plain_of t → answer w ≡ Err (Line refusals.Field x.n)
-          end_bad e = by_text _ is (given_none _ _ _ (sym e))
-
           module _ (k : ℕ) (e : Some k ≡ plain_of t) where
-            pub end_wrong : (k ≡ x.begun → ⊥) → answer w ≡ Err (Line refusals.Count x.n)
-            end_wrong f = by_text _ is (given_made _ _ _ k (sym e) (want_none _ _ _ (ne_eqb k (length (done_after done (in_hand x))) (λ y. f (y ∙ count_is)))))
-
             pub end_after : k ≡ x.begun → 0 < length next → answer w ≡ Err (Line refusals.TooLong (x.n + 1))
-            end_after f more' = by_text _ is (given_made _ _ _ k (sym e) (want_made _ _ _ (eq-eqb k (length (done_after done (in_hand x))) (f ∙ sym count_is)) (want_none _ _ _ (something_after next more'))))
+            end_after f more' = by_text _ is (given_made _ _ _ k (sym e) (want_made _ _ _ (eq-eqb k (length (done_after done (in_hand x))) (f ∙ sym begun_is)) (want_none _ _ _ (something_after next more'))))
 
             end_good : k ≡ x.begun → length next ≡ 0 → answer w ≡ Ok (done_after done (in_hand x))
-            end_good f none = by_text _ is (given_made _ _ _ k (sym e) (want_made _ _ _ (eq-eqb k (length (done_after done (in_hand x))) (f ∙ sym count_is)) (want_made _ _ _ (nothing_after next none) refl)))
+            end_good f none = by_text _ is (given_made _ _ _ k (sym e) (want_made _ _ _ (eq-eqb k (length (done_after done (in_hand x))) (f ∙ sym begun_is)) (want_made _ _ _ (nothing_after next none) refl)))
 
-            pub end_read : k ≡ x.begun → length next ≡ 0 → (new : List ℕ) → new ≡ columns_by w.add x.columns (in_hand x) → BodyRead w.add w.columns (answer w) (Ok x.count) x.held new
-            end_read f none new c =
-                subst (λ y. BodyRead w.add w.columns y (Ok x.count) x.held new) (sym (end_good f none))
-                (last_held x.hand done x.count x.held s.start, c ∙ tallied_after w.add w.columns x.columns done (in_hand x) s.tally)
+            pub end_read : k ≡ x.begun → length next ≡ 0 → (count : ℕ) → count ≡ count_of x.hand → (new : List ℕ) → new ≡ columns_by w.add x.columns (in_hand x) → BodyRead w.add w.columns (answer w) (Ok count) x.held new
+            end_read f none count same new c =
+                subst (λ y. BodyRead w.add w.columns y (Ok count) x.held new) (sym (end_good f none))
+                (ap (λ j. take j x.held) same ∙ last_held x.hand done x.held s.start, c ∙ tallied_after w.add w.columns x.columns done (in_hand x) s.tally)
 
         pub unknown : ((t : List ℕ) → line ≡ codes "acc=" ++ t → ⊥) → ((t : List ℕ) → line ≡ codes "end=" ++ t → ⊥) → answer w ≡ Err (Line refusals.Key x.n)
         unknown a b = answered (added (maybe_none _ _ _ (after_none (codes "acc=") line a) (given_none _ _ _ (after_none (codes "end=") line b))))

@@ -1,5 +1,6 @@
 -- Reading: what is checked, in order, and the first fault.
 use Rattle.std.specs.Prelude.{ℕ, zero, suc, ◌+◌, Bool, true, false, cond, List, [], ◌∷◌, ◌++◌, length, ℤ, Some, None, Ok, Err, codes, Option, Result, ◌==◌, nat_le, nat_lt}
+use Rattle.std.specs.List.{list_all}
 use Rattle.terms.specs.Limits.{within, most_assets, most_positions, most_file_bytes}
 use Rattle.terms.specs.Refusing.{first_refusal}
 use Rattle.terms.specs.declared.refusals.Refusal.{Refusal}
@@ -9,7 +10,7 @@ use Rattle.figures.specs.declared.kinds.Kind.TheVariants.{Own, Client}
 use Rattle.figures.specs.declared.kinds.Account.{Account}
 use Rattle.figures.specs.declared.kinds.Position.{Position}
 use Rattle.figures.specs.Headings.{heading_tests}
-use Rattle.figures.specs.Accounts.{every, change_ok}
+use Rattle.figures.specs.Accounts.{change_ok}
 use Rattle.daytext.specs.Text.{plain_of, signed_of, Parts, parted, after, same}
 use Rattle.dayfile.specs.declared.head.Head.{Head}
 use Rattle.dayreport.specs.declared.faults.Fault.{Fault}
@@ -90,7 +91,7 @@ abbrev pub changes : ℕ → ℕ → List ℕ → Result (List ℤ) Fault
 changes scenarios n t = do
   zs ← given (numbers ((parted 44 t).0 ∷ (parted 44 t).1)) (Line refusals.Field n)
   want (length zs == scenarios) (Line refusals.Count n)
-  want (every change_ok zs) (Line refusals.Sheet n)
+  want (list_all change_ok zs) (Line refusals.Sheet n)
   Ok zs
 
 abbrev pub rows_read : ℕ → ℕ → ℕ → Parts → Result (List (List ℤ) × Parts) Fault

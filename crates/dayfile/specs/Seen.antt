@@ -1,48 +1,48 @@
 -- What the functions of the reader answer, in the words of reading.
-use Rattle.std.specs.Prelude.{◌≡◌, ℕ, ◌+◌, ◌*◌, Bool, cond, List, [], ◌∷◌, ◌++◌, length, take, drop, ℤ, Some, None, Ok, Err, codes, Option, Result, ◌==◌, ◌≢◌}
+use Rattle.std.specs.Prelude.{◌≡◌, ℕ, ◌+◌, ◌*◌, ◌<◌, ◌≤◌, List, [], ◌∷◌, ◌++◌, length, take, drop, ℤ, Some, None, Ok, Err, codes, Option, Result}
 use Rattle.std.specs.Borrow.{Bor}
-use Rattle.terms.specs.declared.refusals.Refusal.{Refusal}
 use Rattle.terms.specs.declared.refusals.Refusal.TheVariants as refusals
-use Rattle.figures.specs.declared.kinds.Kind.{Kind}
-use Rattle.figures.specs.declared.kinds.Kind.TheVariants.{Own, Client}
 use Rattle.figures.specs.declared.kinds.Position.{Position}
-use Rattle.figures.specs.Accounts.{change_ok}
-use Rattle.daytext.specs.Text.{Parts, parted}
+use Rattle.daytext.specs.Text.{Parts, more, parted}
 use Rattle.dayreport.specs.declared.faults.Fault.{Fault}
 use Rattle.dayreport.specs.declared.faults.Fault.TheVariants as faults
+use Rattle.terms.specs.Limits.{most_file_bytes}
 use Rattle.dayfile.specs.declared.body.Open.{Open}
+use Rattle.dayfile.specs.declared.lines.Lines.{Lines}
 use Rattle.dayfile.specs.Days.{Entry, Rule, flat, or_before, tallied}
-use Rattle.dayfile.specs.Reading.{◌>>=◌, Hand, next, changes}
+use Rattle.dayfile.specs.Reading.{◌>>=◌, Hand, told, next, changes}
 
-abbrev pub KindIs : List ℕ → Option Kind → Type 0
-KindIs text (Some Own) = text ≡ codes "own"
-KindIs text (Some Client) = text ≡ codes "cli"
-KindIs text None = (text ≢ codes "own") × (text ≢ codes "cli")
+-- all lines of a file, or that it is too long
+abbrev pub LinesOf : List ℕ → Result Lines Fault → Type 0
+LinesOf bytes (Ok l) = (length bytes ≤ most_file_bytes) × (l.rest.now ≡ bytes) × (l.number ≡ 1)
+LinesOf bytes (Err e) = (most_file_bytes < length bytes) × (e ≡ faults.Line refusals.TooLong 1)
 
--- bytes that are left stand for the lines that are left
-abbrev pub seen_as : {A : Type 0} → Result (A × Bor (List ℕ)) Fault → Result (A × Parts) Fault
-seen_as (Ok p) = Ok (p.0, parted 10 p.1.now)
-seen_as (Err e) = Err e
+-- one line of those that are left, and what is left then; none where they have no end
+abbrev pub LineRead : Lines → Option (Bor (List ℕ)) → Lines → Type 0
+LineRead old None new = (parted 10 old.rest.now ≡ (old.rest.now, [])) × (new.rest.now ≡ old.rest.now) × (new.number ≡ old.number)
+LineRead old (Some l) new = (parted 10 old.rest.now ≡ more l.now (parted 10 new.rest.now)) × (length new.rest.now < length old.rest.now) × (new.number ≡ old.number + 1)
+
+-- what was read, and the lines that are left
+abbrev pub seen_as : {A : Type 0} → Result A Fault → Lines → Result (A × Parts) Fault
+seen_as (Ok a) l = Ok (a, parted 10 l.rest.now)
+seen_as (Err e) l = Err e
+
+-- the same of a text
+abbrev pub text_as : Result (Bor (List ℕ)) Fault → Lines → Result (List ℕ × Parts) Fault
+text_as (Ok t) l = Ok (t.now, parted 10 l.rest.now)
+text_as (Err e) l = Err e
 
 -- whether an answer is good, or its fault
 abbrev pub judged : {A : Type 0} → Result A Fault → Result (Unit {0}) Fault
 judged (Ok a) = Ok tt
 judged (Err e) = Err e
 
--- a change, where it is in range
-abbrev pub in_range : ℤ → Option ℤ
-in_range z = cond (change_ok z) (Some z) None
-
--- what is told of a line of k changes, once all of them are read
-abbrev pub verdict_of : ℕ → ℕ → Bool → ℕ → Option Fault
-verdict_of k scenarios ranged n = cond (k == scenarios) (cond ranged None (Some (faults.Line refusals.Sheet n))) (Some (faults.Line refusals.Count n))
-
--- one asset's changes stand from the place `at` on, or the fault is told
-abbrev pub RowRead : Result (List ℤ) Fault → List ℤ → ℕ → Option Fault → List ℤ → Type 0
-RowRead (Ok zs) old at None new = new ≡ (take at old ++ zs) ++ drop (at + length zs) old
-RowRead (Ok zs) old at (Some e) new = ⊥
-RowRead (Err f) old at None new = ⊥
-RowRead (Err f) old at (Some e) new = e ≡ f
+-- one asset's changes fill its row, or the fault is told
+abbrev pub RowRead : Result (List ℤ) Fault → Result (Unit {0}) Fault → List ℤ → Type 0
+RowRead (Ok zs) (Ok u) row = row ≡ zs
+RowRead (Ok zs) (Err e) row = ⊥
+RowRead (Err f) (Ok u) row = ⊥
+RowRead (Err f) (Err e) row = e ≡ f
 
 -- line n, one asset's changes, and the lines after it
 abbrev pub asset_read : ℕ → ℕ → Parts → Result (List ℤ × Parts) Fault
@@ -51,33 +51,34 @@ asset_read scenarios n p = do
   zs ← changes scenarios n t.0
   Ok (zs, t.1)
 
--- the line was read, and its changes stand from the place `at` on; or the fault is told
-abbrev pub AssetRead : Result (List ℤ × Parts) Fault → List ℤ → ℕ → Result (Bor (List ℕ)) Fault → List ℤ → Type 0
-AssetRead (Ok x) old at (Ok rest) new = (parted 10 rest.now ≡ x.1) × (new ≡ (take at old ++ x.0) ++ drop (at + length x.0) old)
-AssetRead (Ok x) old at (Err e) new = ⊥
-AssetRead (Err f) old at (Ok rest) new = ⊥
-AssetRead (Err f) old at (Err e) new = e ≡ f
+-- the line was read, and its changes fill their row; or the fault is told
+abbrev pub AssetRead : Result (List ℤ × Parts) Fault → Result (Unit {0}) Fault → Lines → List ℤ → Type 0
+AssetRead (Ok x) (Ok u) l row = (parted 10 l.rest.now ≡ x.1) × (row ≡ x.0)
+AssetRead (Ok x) (Err e) l row = ⊥
+AssetRead (Err f) (Ok u) l row = ⊥
+AssetRead (Err f) (Err e) l row = e ≡ f
 
 -- the sheet was read, and stands in front; or the fault is told
-abbrev pub SheetRead : ℕ → Result (List (List ℤ) × Parts) Fault → List ℤ → Result (ℕ × Bor (List ℕ)) Fault → List ℤ → Type 0
-SheetRead scenarios (Ok x) old (Ok r) new = (r.0 ≡ length x.0) × (parted 10 r.1.now ≡ x.1) × (new ≡ flat x.0 ++ drop (length (flat x.0)) old) × (length (flat x.0) ≡ r.0 * scenarios)
-SheetRead scenarios (Ok x) old (Err e) new = ⊥
-SheetRead scenarios (Err f) old (Ok r) new = ⊥
-SheetRead scenarios (Err f) old (Err e) new = e ≡ f
+abbrev pub SheetRead : ℕ → Result (List (List ℤ) × Parts) Fault → List ℤ → Result ℕ Fault → Lines → List ℤ → Type 0
+SheetRead scenarios (Ok x) old (Ok k) l new = (k ≡ length x.0) × (parted 10 l.rest.now ≡ x.1) × (new ≡ flat x.0 ++ drop (length (flat x.0)) old) × (length (flat x.0) ≡ k * scenarios)
+SheetRead scenarios (Ok x) old (Err e) l new = ⊥
+SheetRead scenarios (Err f) old (Ok k) l new = ⊥
+SheetRead scenarios (Err f) old (Err e) l new = e ≡ f
 
--- the account in hand with the positions that were read of it
+-- how many positions the account in hand has
+abbrev pub count_of : Option Open → ℕ
+count_of None = 0
+count_of (Some o) = o.count
+
+-- the account in hand with its positions, with which the list begins
 abbrev pub hand_of : Option Open → List Position → Option Hand
-hand_of None ps = None
-hand_of (Some o) ps = Some (record { line = o.line; entry = record { account = o.account; positions = ps } })
+hand_of None held = None
+hand_of (Some o) held = Some (record { line = o.line; entry = record { account = o.account; positions = take o.count held } })
 
-abbrev pub fault_by : Result (List ℕ) Refusal → ℕ → Option Fault
-fault_by (Ok new) n = None
-fault_by (Err e) n = Some (faults.Tally e n)
-
--- why the account in hand is refused, if it is
-abbrev pub refused_by : Rule → List ℕ → Option Hand → Option Fault
-refused_by add columns None = None
-refused_by add columns (Some h) = fault_by (add columns h.entry) h.line
+-- whether the account in hand is added, or why not
+abbrev pub closed_by : Rule → List ℕ → Option Hand → Result (Unit {0}) Fault
+closed_by add columns None = Ok tt
+closed_by add columns (Some h) = judged (told (add columns h.entry) h.line)
 
 -- the columns once the account in hand is added
 abbrev pub columns_by : Rule → List ℕ → Option Hand → List ℕ

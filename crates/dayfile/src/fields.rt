@@ -1,55 +1,29 @@
 // The fields of a line.
 
-ghost use Rattle.std.specs.Prelude.{◌≡◌, ◌<◌, length, IfOk};
-ghost use Rattle.dayfile.specs.Reading.{account_fields, kind_of, numbered, position_fields};
-ghost use Rattle.dayfile.specs.Seen.{KindIs, seen_as};
-ghost use Rattle.daykeys.specs.KeyTexts.{key_text};
+ghost use Rattle.std.specs.Prelude.{◌≡◌};
+ghost use Rattle.dayfile.specs.Reading.{account_fields, kind_of, position_fields};
 ghost use Rattle.daytext.specs.Text.{parted};
 
-use daykeys::{Key, after_key};
-use dayreport::Fault;
 use daytext::{plain, signed, split};
 use figures::{Account, Kind, Position};
-use terms::Refusal;
-
-// The number of line n, which has this key, and what follows the line.
-pub(crate) fn number<'a>(bytes: &'a [u8], key: Key, n: u32) -> Result<(u64, &'a [u8]), Fault>
-    ensures is { seen_as result ≡ numbered (key_text key) n (parted 10 bytes.now) }
-    ensures less { IfOk result (λ p. length p.1.now < length bytes.now) }
-{
-    let Some((line, rest)) = split(bytes, b'\n') else {
-        return Err(Fault::Line(Refusal::Key, n));
-    };
-    let Some(text) = after_key(line, key) else {
-        return Err(Fault::Line(Refusal::Key, n));
-    };
-    let Some(k) = plain(text) else {
-        return Err(Fault::Line(Refusal::Field, n));
-    };
-    Ok((k, rest))
-}
 
 // Asset and quantity.
 pub(crate) fn position(text: &[u8]) -> Option<Position>
     ensures { result ≡ position_fields (parted 44 text.now) }
 {
-    let Some((first, rest)) = split(text, b',') else {
-        return None;
-    };
-    if let Some(_) = split(rest, b',') {
+    let (asset, quantity) = split(text, b',')?;
+    if split(quantity, b',').is_some() {
         return None;
     }
-    let Some(asset) = plain(first) else {
-        return None;
-    };
-    let Some(quantity) = signed(rest) else {
-        return None;
-    };
-    Some(Position { asset, quantity })
+    Some(Position {
+        asset: plain(asset)?,
+        quantity: signed(quantity)?,
+    })
 }
 
-fn kind_in(text: &[u8]) -> Option<Kind>
-    ensures { KindIs text.now result }
+#[tactic(auto, using(crate::proofs::KindTexts::kind_none))]
+fn kind(text: &[u8]) -> Option<Kind>
+    ensures { result ≡ kind_of text.now }
 {
     match text {
         [b'o', b'w', b'n'] => Some(Kind::Own),
@@ -58,37 +32,18 @@ fn kind_in(text: &[u8]) -> Option<Kind>
     }
 }
 
-fn kind(text: &[u8]) -> Option<Kind>
-    ensures { result ≡ kind_of text.now }
-{
-    kind_in(text)
-}
-
 // Kind, required and posted margin.
 pub(crate) fn account(text: &[u8]) -> Option<Account>
     ensures { result ≡ account_fields (parted 44 text.now) }
 {
-    let Some((first, rest)) = split(text, b',') else {
-        return None;
-    };
-    let Some((second, third)) = split(rest, b',') else {
-        return None;
-    };
-    if let Some(_) = split(third, b',') {
+    let (first, rest) = split(text, b',')?;
+    let (required, posted) = split(rest, b',')?;
+    if split(posted, b',').is_some() {
         return None;
     }
-    let Some(kind) = kind(first) else {
-        return None;
-    };
-    let Some(required) = plain(second) else {
-        return None;
-    };
-    let Some(posted) = plain(third) else {
-        return None;
-    };
     Some(Account {
-        kind,
-        required,
-        posted,
+        kind: kind(first)?,
+        required: plain(required)?,
+        posted: plain(posted)?,
     })
 }

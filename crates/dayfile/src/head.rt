@@ -1,13 +1,13 @@
 // Lines 1 to 5, and the heading that they make.
 
-ghost use Rattle.std.specs.Prelude.{◌≡◌, ◌<◌, ◌≤◌, length, IfOk};
+ghost use Rattle.std.specs.Prelude.{◌≡◌, IfOk};
 ghost use Rattle.dayfile.specs.Reading.{headed, lines_read};
 ghost use Rattle.dayfile.specs.Seen.{judged, seen_as};
 ghost use Rattle.daytext.specs.Text.{parted};
 ghost use Rattle.figures.specs.Headings.{Headed, heading_tests};
 ghost use Rattle.terms.specs.Refusing.{first_refusal};
 
-use crate::fields::number;
+use crate::lines::Lines;
 use daykeys::Key;
 use dayreport::Fault;
 use figures::Heading;
@@ -25,28 +25,22 @@ pub(crate) struct Head {
 // The line that ends the heading: its faults are told there.
 const LAST_LINE: u32 = 5;
 
-// Reads lines 1 to 5, and what follows them.
-pub(crate) fn first_lines<'a>(bytes: &'a [u8]) -> Result<(Head, &'a [u8]), Fault>
-    ensures is { seen_as result ≡ lines_read (parted 10 bytes.now) }
-    ensures less { IfOk result (λ p. length p.1.now < length bytes.now) }
+// Reads lines 1 to 5.
+pub(crate) fn first_lines(lines: &mut Lines) -> Result<Head, Fault>
+    requires { lines.old.number ≡ 1 }
+    ensures is { seen_as result lines.new ≡ lines_read (parted 10 lines.old.rest.now) }
+    ensures on { IfOk result (λ _. lines.new.number ≡ 6) }
 {
-    let (form, rest) = number(bytes, Key::Form, 1)?;
+    let form = lines.number(Key::Form)?;
     if form != 1 {
         return Err(Fault::Line(Refusal::Field, 1));
     }
-    let (member, rest) = number(rest, Key::Member, 2)?;
-    let (segment, rest) = number(rest, Key::Segment, 3)?;
-    let (day, rest) = number(rest, Key::Day, 4)?;
-    let (scenarios, rest) = number(rest, Key::Scenarios, LAST_LINE)?;
-    Ok((
-        Head {
-            member,
-            segment,
-            day,
-            scenarios,
-        },
-        rest,
-    ))
+    Ok(Head {
+        member: lines.number(Key::Member)?,
+        segment: lines.number(Key::Segment)?,
+        day: lines.number(Key::Day)?,
+        scenarios: lines.number(Key::Scenarios)?,
+    })
 }
 
 // The heading that the first lines make. Its refusal is told at the last of them.
@@ -54,8 +48,7 @@ pub(crate) fn checked(head: Head) -> Result<Heading, Fault>
     ensures fault { judged result ≡ headed (first_refusal (heading_tests head.member head.segment head.day head.scenarios)) }
     ensures is { IfOk result (λ h. Headed h head.member head.segment head.day head.scenarios) }
 {
-    match Heading::check(head.member, head.segment, head.day, head.scenarios) {
-        Ok(heading) => Ok(heading),
-        Err(refusal) => Err(Fault::Heading(refusal, LAST_LINE)),
-    }
+    Heading::check(head.member, head.segment, head.day, head.scenarios).map_err(
+        |refusal| Fault::Heading(refusal, LAST_LINE),
+    )
 }

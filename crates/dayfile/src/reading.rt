@@ -7,20 +7,12 @@ ghost use Rattle.std.specs.Prelude.{◌≡◌, true, length, replicate, pos};
 
 use crate::body::accounts;
 use crate::head::{checked, first_lines};
+use crate::lines::Lines;
 use crate::sheets::sheet;
 use dayreport::Fault;
 use figures::{Figure, Position};
 use terms::Refusal;
-use terms::limits::{MOST_CHANGES, MOST_FILE_BYTES, MOST_POSITIONS};
-use terms::lists::fill;
-
-const NOTHING_HELD: Position = Position {
-    asset: 0,
-    quantity: 0,
-};
-
-// The line after the sheet of one asset; each further asset has a line more.
-const FIRST_CHANGES_LINE: u32 = 7;
+use terms::limits::{MOST_CHANGES, MOST_POSITIONS};
 
 // Reads a day into the caller's lists, which have their lengths. The changes are zeros before.
 fn day(bytes: &[u8], changes: &mut [i32], positions: &mut [Position]) -> Result<Figure, Fault>
@@ -28,26 +20,23 @@ fn day(bytes: &[u8], changes: &mut [i32], positions: &mut [Position]) -> Result<
     requires long { (length changes.old ≡ most_changes) × (length positions.old ≡ most_positions) }
     ensures { DayRead (reading bytes.now) result changes.new positions.new }
 {
-    if bytes.len() > MOST_FILE_BYTES {
-        return Err(Fault::Line(Refusal::TooLong, 1));
-    }
-    let (head, rest) = first_lines(bytes)?;
+    let mut lines = Lines::of(bytes)?;
+    let head = first_lines(&mut lines)?;
     let heading = checked(head)?;
     let scenarios = head.scenarios as usize;
-    let (assets, rest) = sheet(rest, scenarios, changes)?;
+    let assets = sheet(&mut lines, scenarios, changes)?;
     let mut tally = heading.open();
-    let first = FIRST_CHANGES_LINE + assets as u32;
     let count = accounts(
-        rest,
-        first,
+        &mut lines,
         &mut tally,
-        &changes[0..assets * scenarios],
+        &changes[..assets * scenarios],
         positions,
     )?;
-    fill(positions, count, NOTHING_HELD);
+    positions[count..].fill(Position::default());
     Ok(tally.strike())
 }
 
+// The two lists are the caller's, each for itself.
 fn lengths_ok(changes: &[i32], positions: &[Position]) -> bool
     ensures { result ≡ lengths_ok changes.now positions.now }
 {
@@ -68,13 +57,11 @@ pub fn read(bytes: &[u8], changes: &mut [i32], positions: &mut [Position]) -> Re
     if !lengths_ok(changes, positions) {
         return Err(Fault::Line(Refusal::Lengths, 1));
     }
-    fill(changes, 0, 0);
-    match day(bytes, changes, positions) {
-        Ok(figure) => Ok(figure),
-        Err(fault) => {
-            fill(changes, 0, 0);
-            fill(positions, 0, NOTHING_HELD);
-            Err(fault)
-        }
+    changes.fill(0);
+    let answer = day(bytes, changes, positions);
+    if answer.is_err() {
+        changes.fill(0);
+        positions.fill(Position::default());
     }
+    answer
 }

@@ -1,83 +1,58 @@
 // The sheet: how many assets, and a line of changes for each.
 
-ghost use Rattle.std.specs.Prelude.{◌≡◌, ◌+◌, ◌*◌, ◌<◌, ◌≤◌, length, IfOk};
+ghost use Rattle.std.specs.Prelude.{◌≡◌, ◌+◌, ◌*◌, ◌≤◌, length, IfOk};
 ghost use Rattle.dayfile.specs.Reading.{assets_read, sheet_read};
 ghost use Rattle.dayfile.specs.Seen.{AssetRead, SheetRead, asset_read, seen_as};
 ghost use Rattle.daytext.specs.Text.{parted};
 ghost use Rattle.terms.specs.Limits.{most_assets, most_scenarios};
 
-use crate::fields::number;
+use crate::lines::Lines;
 use crate::rows::asset_changes;
-use daykeys::{Key, after_key};
+use daykeys::Key;
 use dayreport::Fault;
-use daytext::split;
 use terms::Refusal;
 use terms::limits::MOST_ASSETS;
 
-// The line that counts the assets; their changes begin at the next.
+// The line that counts the assets.
 const ASSETS_LINE: u32 = 6;
 
-// The number of assets, and what follows its line.
-fn assets<'a>(bytes: &'a [u8]) -> Result<(u64, &'a [u8]), Fault>
-    ensures is { seen_as result ≡ assets_read (parted 10 bytes.now) }
-    ensures within { IfOk result (λ p. (1 ≤ p.0) × (p.0 ≤ most_assets)) }
-    ensures less { IfOk result (λ p. length p.1.now < length bytes.now) }
+// The number of assets.
+fn assets(lines: &mut Lines) -> Result<usize, Fault>
+    requires { lines.old.number ≡ 6 }
+    ensures is { seen_as result lines.new ≡ assets_read (parted 10 lines.old.rest.now) }
+    ensures within { IfOk result (λ k. (1 ≤ k) × (k ≤ most_assets)) }
+    ensures on { IfOk result (λ _. lines.new.number ≡ 7) }
 {
-    let (assets, rest) = number(bytes, Key::Assets, ASSETS_LINE)?;
+    let assets = lines.number(Key::Assets)?;
     if assets < 1 || assets > MOST_ASSETS as u64 {
         return Err(Fault::Line(Refusal::Sheet, ASSETS_LINE));
     }
-    Ok((assets, rest))
+    Ok(assets as usize)
 }
 
-// Reads the line of one asset into `out` from the place `at` on, and answers what follows it.
-fn asset<'a>(
-    bytes: &'a [u8],
-    scenarios: usize,
-    n: u32,
-    out: &mut [i32],
-    at: usize,
-) -> Result<&'a [u8], Fault>
-    requires { at + scenarios ≤ length out.old }
-    ensures is { AssetRead (asset_read scenarios n (parted 10 bytes.now)) out.old at result out.new }
-    ensures less { IfOk result (λ p. length p.now < length bytes.now) }
+// Reads the next line, one asset's, into its row, which has a place for each scenario.
+fn asset(lines: &mut Lines, row: &mut [i32]) -> Result<(), Fault>
+    ensures is { AssetRead (asset_read (length row.old) lines.old.number (parted 10 lines.old.rest.now)) result lines.new row.new }
+    ensures on { IfOk result (λ _. lines.new.number ≡ lines.old.number + 1) }
 {
-    let Some((line, rest)) = split(bytes, b'\n') else {
-        return Err(Fault::Line(Refusal::Key, n));
-    };
-    let Some(text) = after_key(line, Key::Changes) else {
-        return Err(Fault::Line(Refusal::Key, n));
-    };
-    match asset_changes(text, scenarios, n, out, at) {
-        None => Ok(rest),
-        Some(fault) => Err(fault),
-    }
+    let number = lines.number;
+    let text = lines.text(Key::Changes)?;
+    asset_changes(text, row, number)
 }
 
-// Reads the sheet into the front of `out`: the number of its assets, and what follows it.
-pub(crate) fn sheet<'a>(
-    bytes: &'a [u8],
-    scenarios: usize,
-    out: &mut [i32],
-) -> Result<(usize, &'a [u8]), Fault>
-    requires { (most_assets * scenarios ≤ length out.old) × (scenarios ≤ most_scenarios) }
-    ensures is { SheetRead scenarios (sheet_read scenarios (parted 10 bytes.now)) out.old result out.new }
-    ensures within { IfOk result (λ p. (p.0 ≤ most_assets) × (p.0 * scenarios ≤ length out.old)) }
-    ensures less { IfOk result (λ p. length p.1.now ≤ length bytes.now) }
+// Reads the sheet into the front of `out`, and answers how many assets it has.
+pub(crate) fn sheet(lines: &mut Lines, scenarios: usize, out: &mut [i32]) -> Result<usize, Fault>
+    requires first { lines.old.number ≡ 6 }
+    requires room { (most_assets * scenarios ≤ length out.old) × (scenarios ≤ most_scenarios) }
+    ensures is { SheetRead scenarios (sheet_read scenarios (parted 10 lines.old.rest.now)) out.old result lines.new out.new }
+    ensures within { IfOk result (λ k. (k ≤ most_assets) × (k * scenarios ≤ length out.old)) }
+    ensures on { IfOk result (λ k. lines.new.number ≡ 7 + k) }
 {
-    let (count, first) = assets(bytes)?;
-    let mut rest = first;
-    for a in 0..count as usize {
-        match asset(
-            rest,
-            scenarios,
-            ASSETS_LINE + 1 + a as u32,
-            out,
-            a * scenarios,
-        ) {
-            Ok(next) => rest = next,
-            Err(fault) => return Err(fault),
-        }
+    let count = assets(lines)?;
+    // By number: of rows that an iterator lends to be written, nothing is known of the sheet afterwards.
+    for a in 0..count {
+        let at = a * scenarios;
+        asset(lines, &mut out[at..at + scenarios])?;
     }
-    Ok((count as usize, rest))
+    Ok(count)
 }

@@ -17,6 +17,7 @@ pub enum Fault {
 }
 
 impl Fault {
+    // Refusal and line are each read out of every case: a case for each layer is what a reader matches on.
     pub fn refusal(self) -> Refusal
         ensures { result ≡ refusal_in self }
     {
@@ -35,7 +36,7 @@ impl Fault {
         }
     }
 
-    /// The layer's letter: L line, H heading, T tally.
+    /// The layer's letter: L line, H heading, T tally. A byte, since that is what is printed and promised of it.
     pub fn layer(self) -> u8
         ensures { result ≡ layer_in self }
     {

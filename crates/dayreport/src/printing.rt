@@ -1,49 +1,67 @@
-// The printed lines of a figure or of a fault.
+// The printed lines of a figure or of a fault. A report cannot fail, and no clause says when a `write!` succeeds, so each
+// piece is put behind the last, where it fits as is proved.
 
 ghost use Rattle.std.specs.Prelude.{◌≡◌, ◌+◌, ◌≤◌, length, take};
+ghost use Rattle.daytext.specs.Text.{decimal};
 ghost use Rattle.dayreport.specs.Printing.{Wrote, fault_text, figure_text, line_text, printed, report_bytes};
 
 use crate::faults::Fault;
 use crate::reports::{REPORT_BYTES, Report};
-use daytext::{put, put_number};
 use figures::Numbers;
 
-// Writes a line of a key and a number from the place `at` on, and answers the place behind it. No number has more than 20
-// digits, and one byte ends the line.
-fn put_line(out: &mut [u8], at: usize, key: &[u8], n: u64) -> usize
-    requires { at + length key.now + 21 ≤ length out.old }
-    ensures wrote { Wrote out.old at (line_text key.now n) result out.new }
-    ensures short { result ≤ at + length key.now + 21 }
-{
-    let start = put(out, at, key);
-    let end = put_number(out, start, n);
-    put(out, end, b"\n")
-}
+impl Report {
+    // Two functions, for a text and for a number: as one over a trait they would need a type for the digits.
+    // Writes `text` behind what stands.
+    fn put(&mut self, text: &[u8])
+        requires { self.old.len + length text.now ≤ report_bytes }
+        ensures { Wrote self.old.bytes self.old.len text.now self.new.len self.new.bytes }
+    {
+        self.len = daytext::put(&mut self.bytes, self.len, text);
+    }
 
-// Writes the lines of a figure, and answers their length.
-fn put_figure(out: &mut [u8], numbers: Numbers) -> usize
-    requires { length out.old ≡ report_bytes }
-    ensures bytes { take result out.new ≡ figure_text numbers }
-    ensures within { result ≤ report_bytes }
-{
-    let member = put_line(out, 0, b"member=", numbers.member);
-    let segment = put_line(out, member, b"segment=", numbers.segment);
-    let day = put_line(out, segment, b"day=", numbers.day);
-    put_line(out, day, b"risk=", numbers.amount)
-}
+    // Writes the digits of `n` behind what stands. No number has more than 20.
+    fn put_number(&mut self, n: u64)
+        requires { self.old.len + 20 ≤ report_bytes }
+        ensures wrote { Wrote self.old.bytes self.old.len (decimal n) self.new.len self.new.bytes }
+        ensures short { self.new.len ≤ self.old.len + 20 }
+    {
+        self.len = daytext::put_number(&mut self.bytes, self.len, n);
+    }
 
-// Writes the line of a fault, and answers its length.
-fn put_fault(out: &mut [u8], fault: Fault) -> usize
-    requires { length out.old ≡ report_bytes }
-    ensures bytes { take result out.new ≡ fault_text fault }
-    ensures within { result ≤ report_bytes }
-{
-    let key = put(out, 0, b"refused=");
-    let number = put_number(out, key, fault.refusal().number() as u64);
-    let comma = put(out, number, b",");
-    let line = put_number(out, comma, fault.line() as u64);
-    let last = put(out, line, b",");
-    put(out, last, &[fault.layer(), b'\n'])
+    // Writes a line of a key and a number.
+    fn put_line(&mut self, key: &[u8], n: u64)
+        requires { self.old.len + length key.now + 21 ≤ report_bytes }
+        ensures wrote { Wrote self.old.bytes self.old.len (line_text key.now n) self.new.len self.new.bytes }
+        ensures short { self.new.len ≤ self.old.len + length key.now + 21 }
+    {
+        self.put(key);
+        self.put_number(n);
+        self.put(b"\n");
+    }
+
+    // Writes the lines of a figure.
+    fn put_figure(&mut self, numbers: Numbers)
+        requires { self.old.len ≡ 0 }
+        ensures { take self.new.len self.new.bytes ≡ figure_text numbers }
+    {
+        self.put_line(b"member=", numbers.member);
+        self.put_line(b"segment=", numbers.segment);
+        self.put_line(b"day=", numbers.day);
+        self.put_line(b"risk=", numbers.amount);
+    }
+
+    // Writes the line of a fault.
+    fn put_fault(&mut self, fault: Fault)
+        requires { self.old.len ≡ 0 }
+        ensures { take self.new.len self.new.bytes ≡ fault_text fault }
+    {
+        self.put(b"refused=");
+        self.put_number(u64::from(fault.refusal().number()));
+        self.put(b",");
+        self.put_number(u64::from(fault.line()));
+        self.put(b",");
+        self.put(&[fault.layer(), b'\n']);
+    }
 }
 
 /// What is printed of an answer: a figure's member, segment, day and amount, a line each, or `refused=` with the fault's
@@ -51,18 +69,13 @@ fn put_fault(out: &mut [u8], fault: Fault) -> usize
 pub fn report(answer: Result<Numbers, Fault>) -> Report
     ensures { take result.len result.bytes ≡ printed answer }
 {
-    let mut bytes = [0; REPORT_BYTES];
-    let len = match answer {
-        Ok(numbers) => put_figure(&mut bytes, numbers),
-        Err(fault) => put_fault(&mut bytes, fault),
+    let mut report = Report {
+        bytes: [0; REPORT_BYTES],
+        len: 0,
     };
-    Report { bytes, len }
-}
-
-impl Report {
-    pub fn as_bytes(&self) -> &[u8]
-        ensures { result.now ≡ take self.now.len self.now.bytes }
-    {
-        &self.bytes[0..self.len]
+    match answer {
+        Ok(numbers) => report.put_figure(numbers),
+        Err(fault) => report.put_fault(fault),
     }
+    report
 }

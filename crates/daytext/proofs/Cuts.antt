@@ -1,12 +1,15 @@
 -- Slices and the parts of a text. Assumes nothing.
-use Rattle.std.proofs.Common.{◌≡◌, ℕ, suc, ◌+◌, ◌-◌, ◌<◌, ◌≤◌, Bool, cond, not, eqb, List, [], ◌∷◌, ◌++◌, length, get_or, take, drop, Some, None, Option, sym, refl, ap, ◌∙◌, ⊎_elim, arith, length-drop}
+use Rattle.std.proofs.Common.{◌≡◌, ◌≢◌, ℕ, suc, ◌+◌, ◌-◌, ◌<◌, Bool, cond, not, eqb, List, [], ◌∷◌, ◌++◌, length, get_or, take, drop, Some, None, Option, sym, refl, ap, ◌∙◌, ⊎_elim, arith, length-drop}
 use native.Mathlib.Nat.{sub-zero}
-use Rattle.std.specs.List.{between, prefix_len}
-use Rattle.std.proofs.lemmas.List.{take_rest, at_drop_more, at_drop_all}
-use Rattle.std.proofs.lemmas.List.Prefix.{front_fits}
-use Rattle.std.proofs.lemmas.Bool.{cases_Bool, eq-eqb, ne_eqb}
-use Rattle.daytext.specs.Text.{FirstAt, Parts, more, parted, after, unlike}
-use Rattle.daytext.proofs.Texts.{after_back, cut}
+use Rattle.std.specs.Borrow.{Bor}
+use Rattle.std.specs.List.{position, prefix_len}
+use Rattle.std.specs.Option.{MatchOption, unwrap_or}
+use Rattle.std.proofs.lemmas.Grind.{common_steps}
+use Rattle.std.proofs.lemmas.List.Sums.{prefix_len-le-length}
+use Rattle.std.proofs.lemmas.List.{take_rest}
+use Rattle.std.proofs.lemmas.Bool.{cases_Bool}
+use Rattle.daytext.specs.Text.{FirstAt, Parts, more, parted, after, seen, unlike}
+use Rattle.daytext.proofs.Texts.{after_back, after_made, cut}
 
 -- how far the first separator is from a byte that is one, or is none
 abbrev steps : ℕ → List ℕ → Bool → ℕ
@@ -37,14 +40,14 @@ parted_more sep (c ∷ cs) n e h = ⊎_elim
     (cases_Bool (eqb c sep))
 
 -- the same, with the parts as slices have them
-pub split_cut : (sep : ℕ) (bs : List ℕ) (n : ℕ) → prefix_len (unlike sep) bs ≡ n → n ≤ length bs → (n ≡ length bs → ⊥) → (parted sep bs ≡ more (take (n - 0) bs) (parted sep (take (length bs - (n + 1)) (drop (n + 1) bs)))) × (length (take (length bs - (n + 1)) (drop (n + 1) bs)) < length bs)
-split_cut sep bs n e h f = rw (sub-zero n, take_rest bs (n + 1)) (parted_more sep bs n e (omega arith), simp length-drop (omega arith))
+pub split_cut : (sep : ℕ) (bs : List ℕ) (n : ℕ) → prefix_len (unlike sep) bs ≡ n → n < length bs → (parted sep bs ≡ more (take n bs) (parted sep (take (length bs - (n + 1)) (drop (n + 1) bs)))) × (length (take (length bs - (n + 1)) (drop (n + 1) bs)) < length bs)
+split_cut sep bs n e h = rw (take_rest bs (n + 1)) (parted_more sep bs n e h, simp length-drop (omega arith))
 
--- both, for the place that is found by going along the text
+-- both, for the place of the first separator or the length
 pub first_at : (sep : ℕ) (bs : List ℕ) (n : ℕ) → prefix_len (unlike sep) bs ≡ n → FirstAt sep bs n
 first_at sep bs n e = record {
   whole = λ h. parted_last sep bs (e ∙ h);
-  cut = λ h. (split_cut sep bs n e (omega arith) (λ q. omega arith)).0;
+  cut = λ h. rw (sub-zero n) (split_cut sep bs n e h).0;
 }
 
 -- what is not a key's front is not after it
@@ -63,18 +66,17 @@ exact3 (x ∷ y ∷ []) a b c h p q r = absurd (omega arith)
 exact3 (x ∷ y ∷ z ∷ []) a b c h p q r = cc
 exact3 (x ∷ y ∷ z ∷ w ∷ ws) a b c h p q r = absurd (omega arith)
 
--- keys, by place
-pub after_short : (k l : List ℕ) → length l < length k → after k l ≡ None
-after_short k l h = after_none k l (λ t e. omega (arith, front_fits l k t e))
+-- where the first separator stands, or that there is none
+pub none_at : (sep : ℕ) (bs : List ℕ) → position (λ b. eqb b sep) bs ≡ None → prefix_len (unlike sep) bs ≡ length bs
+none_at sep bs e = grind (arith, common_steps, prefix_len-le-length (unlike sep) bs)
 
-after_step : (k l : List ℕ) (i : ℕ) → i < length k → i < length l → after (drop i k) (drop i l) ≡ cond (eqb (get_or l i 0) (get_or k i 0)) (after (drop (i + 1) k) (drop (i + 1) l)) None
-after_step k l i h h' = at_drop_more (λ x. after x (drop i l)) k i 0 h ∙ at_drop_more (after (get_or k i 0 ∷ drop (i + 1) k)) l i 0 h'
+pub some_at : (sep : ℕ) (bs : List ℕ) (n : ℕ) → position (λ b. eqb b sep) bs ≡ Some n → (prefix_len (unlike sep) bs ≡ n) × (n < length bs)
+some_at sep bs n e = grind (arith, common_steps)
 
-pub after_stop : (k l : List ℕ) (i : ℕ) → i < length k → i < length l → (get_or l i 0 ≡ get_or k i 0 → ⊥) → after (drop i k) (drop i l) ≡ None
-after_stop k l i h h' f = after_step k l i h h' ∙ ap (λ b. cond b (after (drop (i + 1) k) (drop (i + 1) l)) None) (ne_eqb _ _ f)
+pub upto_at : (sep : ℕ) (bs : List ℕ) (n : ℕ) → n ≡ unwrap_or (position (λ b. eqb b sep) bs) (length bs) → prefix_len (unlike sep) bs ≡ n
+upto_at sep bs n e = grind (arith, common_steps, prefix_len-le-length (unlike sep) bs)
 
-pub after_more : (k l : List ℕ) (i : ℕ) → i < length k → i < length l → get_or l i 0 ≡ get_or k i 0 → after (drop (i + 1) k) (drop (i + 1) l) ≡ after (drop i k) (drop i l)
-after_more k l i h h' f = sym (after_step k l i h h' ∙ ap (λ b. cond b (after (drop (i + 1) k) (drop (i + 1) l)) None) (eq-eqb _ _ f))
-
-pub after_all : (k l : List ℕ) (i : ℕ) → length k ≡ i → after (drop i k) (drop i l) ≡ Some (between (length k) (length l) l)
-after_all k l i h = at_drop_all (λ x. after x (drop i l)) k i (omega arith) ∙ ap (λ j. Some (drop j l)) (sym h) ∙ ap Some (sym (take_rest l (length k)))
+-- what stands behind a key, or that the line does not begin with it
+pub past_key : (key line : List ℕ) (r : Option (Bor (List ℕ))) → MatchOption r ((t : List ℕ) → line ≢ key ++ t) (λ x. line ≡ key ++ x.now) → seen r ≡ after key line
+past_key key line None h = sym (after_none key line h)
+past_key key line (Some x) h = sym (ap (after key) h ∙ after_made key x.now)

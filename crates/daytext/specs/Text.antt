@@ -1,7 +1,7 @@
 -- Texts of lines and fields that hold whole numbers: how they are read and how they are written. A text is a list of
 -- bytes, and a byte in single quotes below stands for its code.
 use Rattle.std.specs.Borrow.{Bor}
-use Rattle.std.specs.Prelude.{◌≡◌, ℕ, zero, suc, ◌+◌, ◌-◌, ◌*◌, ◌^◌, ◌<◌, ◌≤◌, Bool, true, false, cond, not, ◌&&◌, List, [], ◌∷◌, ◌++◌, map, length, take, drop, ℤ, pos, negsuc, Some, None, Option, ◌==◌, nat_le, unsigned_abs}
+use Rattle.std.specs.Prelude.{◌≡◌, ℕ, zero, suc, ◌+◌, ◌-◌, ◌*◌, ◌^◌, ◌<◌, Bool, true, false, cond, not, ◌&&◌, List, [], ◌∷◌, ◌++◌, map, length, take, drop, ℤ, pos, negsuc, Some, None, Option, ◌==◌, nat_le, unsigned_abs}
 use Rattle.std.specs.Int.Digits.{digits_of}
 use Rattle.std.specs.List.{between}
 
@@ -118,11 +118,6 @@ abbrev pub after : List ℕ → List ℕ → Option (List ℕ)
 after [] l = Some l
 after (k ∷ ks) [] = None
 after (k ∷ ks) (c ∷ cs) = cond (c == k) (after ks cs) None
-
--- whether a text begins with a key, and what follows it then
-abbrev pub BeginsIs : List ℕ → List ℕ → Bool → Type 0
-BeginsIs k l true = (length k ≤ length l) × (after k l ≡ Some (between (length k) (length l) l))
-BeginsIs k l false = after k l ≡ None
 
 -- the bytes that a reference points to, where there is one
 abbrev pub seen : Option (Bor (List ℕ)) → Option (List ℕ)

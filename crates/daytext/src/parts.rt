@@ -1,8 +1,15 @@
 // A text cut at a separator, or behind a key.
 
-ghost use Rattle.std.specs.Prelude.{◌≡◌, ◌≤◌, length};
-ghost use Rattle.daytext.specs.Text.{BeginsIs, FirstAt, SplitIs, after, seen, unlike};
-ghost use Rattle.std.specs.List.{prefix_len};
+ghost use Rattle.std.specs.Prelude.{◌≡◌, ◌≤◌, ◌==◌, length};
+ghost use Rattle.daytext.specs.Text.{FirstAt, SplitIs, after, seen, unlike};
+ghost use Rattle.std.specs.List.{position, prefix_len};
+
+// The place of the first separator.
+fn first(text: &[u8], sep: u8) -> Option<usize>
+    ensures { result ≡ position (λ b. b == sep) text.now }
+{
+    text.iter().position(|b| *b == sep)
+}
 
 /// How many bytes come before the first `sep`, or all of them.
 pub fn upto(text: &[u8], sep: u8) -> usize
@@ -10,45 +17,20 @@ pub fn upto(text: &[u8], sep: u8) -> usize
     ensures within { result ≤ length text.now }
     ensures parts { FirstAt sep text.now result }
 {
-    let mut n = 0;
-    while n < text.len() && text[n] != sep {
-        n += 1;
-    }
-    n
+    first(text, sep).unwrap_or(text.len())
 }
 
 /// The first part and what follows the separator after it; `None` where there is no separator.
 pub fn split<'a>(bytes: &'a [u8], sep: u8) -> Option<(&'a [u8], &'a [u8])>
     ensures { SplitIs sep bytes.now result }
 {
-    let n = upto(bytes, sep);
-    if n == bytes.len() {
-        return None;
-    }
-    Some((&bytes[0..n], &bytes[n + 1..]))
-}
-
-// Whether the line begins with the key.
-fn begins(line: &[u8], key: &[u8]) -> bool
-    ensures { BeginsIs key.now line.now result }
-{
-    if line.len() < key.len() {
-        return false;
-    }
-    for (i, k) in key.iter().enumerate() {
-        if line[i] != *k {
-            return false;
-        }
-    }
-    true
+    let n = first(bytes, sep)?;
+    Some((&bytes[..n], &bytes[n + 1..]))
 }
 
 /// What follows the key, where the line begins with it.
 pub fn past<'a>(line: &'a [u8], key: &[u8]) -> Option<&'a [u8]>
     ensures { seen result ≡ after key.now line.now }
 {
-    if !begins(line, key) {
-        return None;
-    }
-    Some(&line[key.len()..])
+    line.strip_prefix(key)
 }

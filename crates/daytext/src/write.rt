@@ -1,8 +1,10 @@
-// Text written over bytes that the caller has.
+// Text written over bytes that the caller has. Bytes and a place come apart, and no vector of either kind stands for them: the caller's
+// bytes may be any, the text may stand anywhere in them, and nothing is allocated.
 
-ghost use Rattle.std.specs.Prelude.{◌≡◌, ◌<◌, length};
+ghost use Rattle.std.specs.Prelude.{◌≡◌};
 ghost use Rattle.daytext.specs.Text.{behind, decimal, laid};
-ghost use Rattle.std.specs.List.{between};
+
+use itoa::Buffer;
 
 /// Writes `text` over `out` from the place `at` on, and answers the place behind it. Where not all of it fits, nothing
 /// is written, and the answer is `at`.
@@ -18,30 +20,11 @@ pub fn put(out: &mut [u8], at: usize, text: &[u8]) -> usize
     end
 }
 
-// The digits of `n`, at the end of an array, and the place of the first. No `u64` has more than 20.
-fn digits_of(n: u64) -> ([u8; 20], usize)
-    ensures is { between result.1 20 result.0 ≡ decimal n }
-    ensures within { result.1 < 20 }
-    ensures long { length result.0 ≡ 20 }
-{
-    let mut digits = [b'0'; 20];
-    let mut first = 19;
-    digits[first] = b'0' + (n % 10) as u8;
-    let mut rest = n / 10;
-    while rest > 0 {
-        first -= 1;
-        digits[first] = b'0' + (rest % 10) as u8;
-        rest /= 10;
-    }
-    (digits, first)
-}
-
 /// Writes the digits of `n` over `out` from the place `at` on, and answers the place behind them. Where not all of them
 /// fit, nothing is written, and the answer is `at`.
 pub fn put_number(out: &mut [u8], at: usize, n: u64) -> usize
     ensures bytes { out.new ≡ laid out.old at (decimal n) }
     ensures place { result ≡ behind out.old at (decimal n) }
 {
-    let (digits, first) = digits_of(n);
-    put(out, at, &digits[first..])
+    put(out, at, Buffer::new().format(n).as_bytes())
 }

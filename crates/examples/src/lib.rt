@@ -4,8 +4,6 @@
 ghost use Rattle.examples.specs.Worked.{Right, worked};
 
 /// The theorem that the definitions give what each worked example expects.
-pub fn examples_stand() -> u8
+pub fn examples_stand()
     ensures { Right worked }
-{
-    0
-}
+{}

@@ -3,7 +3,7 @@
 
 use dayfile::read;
 use dayreport::report;
-use figures::Position;
+use figures::{Figure, Position};
 use std::io;
 use std::io::{Read, Write};
 use terms::limits::{MOST_CHANGES, MOST_FILE_BYTES, MOST_POSITIONS};
@@ -17,13 +17,7 @@ fn main(rt: HostRuntime) -> io::Result<()> {
     io::copy(&mut rt.stdin(), &mut io::sink())?;
 
     let mut changes = [0; MOST_CHANGES];
-    let mut positions = [Position {
-        asset: 0,
-        quantity: 0,
-    }; MOST_POSITIONS];
-    let answer = match read(bytes.as_slice(), &mut changes, &mut positions) {
-        Ok(figure) => Ok(figure.set_aside()),
-        Err(fault) => Err(fault),
-    };
+    let mut positions = [Position::default(); MOST_POSITIONS];
+    let answer = read(bytes.as_slice(), &mut changes, &mut positions).map(Figure::set_aside);
     rt.stdout().write_all(report(answer).as_bytes())
 }

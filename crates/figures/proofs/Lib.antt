@@ -1,4 +1,3 @@
-mod Elements
 mod Sizes
 mod Raising
 mod Refusing

@@ -1,7 +1,7 @@
 -- What an account adds to the columns of a tally, and when it is refused.
-use Rattle.std.specs.Prelude.{◌≡◌, ℕ, ◌+◌, ◌*◌, ◌/◌, ◌%◌, ◌≤◌, min, Bool, true, cond, ◌&&◌, List, [], ◌∷◌, map, length, ℤ, pos, negsuc, ◌+ℤ◌, ◌-ℤ◌, ◌*ℤ◌, neg_ℤ, Some, None, Ok, Err, fold, Option, Result, ◌==◌, nat_le, nat_lt, slice_index, slice_index_or, unsigned_abs}
-use Rattle.std.specs.List.{range_with_len}
-use Rattle.terms.specs.Limits.{within, most_scenarios, most_assets, most_positions, change_limit, quantity_limit, margin_limit, column_limit}
+use Rattle.std.specs.Prelude.{◌≡◌, ℕ, ◌+◌, ◌*◌, ◌/◌, ◌%◌, ◌≤◌, min, Bool, cond, ◌&&◌, List, [], ◌∷◌, map, length, ℤ, pos, negsuc, ◌+ℤ◌, ◌-ℤ◌, ◌*ℤ◌, neg_ℤ, Some, None, Ok, Err, fold, Option, Result, ◌==◌, nat_le, nat_lt, slice_index, slice_index_or, unsigned_abs}
+use Rattle.std.specs.List.{list_all, range_with_len}
+use Rattle.terms.specs.Limits.{within, most_assets, most_positions, change_limit, quantity_limit, margin_limit, column_limit}
 use Rattle.terms.specs.Refusing.{Tests, first_refusal}
 use Rattle.terms.specs.declared.refusals.Refusal.{Refusal}
 use Rattle.terms.specs.declared.refusals.Refusal.TheVariants.{Sheet, Positions, Margin, Column}
@@ -10,11 +10,6 @@ use Rattle.figures.specs.declared.kinds.Kind.TheVariants.{Own, Client}
 use Rattle.figures.specs.declared.kinds.Account.{Account}
 use Rattle.figures.specs.declared.kinds.Position.{Position}
 use Rattle.figures.specs.declared.kinds.Tally.{Tally}
-
--- each element passes the test
-abbrev pub every : {X : Type 0} → (X → Bool) → List X → Bool
-every p [] = true
-every p (x ∷ xs) = p x && every p xs
 
 -- the sheet lists the changes scenario by scenario for asset 0, then for asset 1, and so on
 abbrev pub change_in : List ℤ → ℕ → ℕ → ℕ → ℤ
@@ -44,9 +39,13 @@ positive (negsuc n) = 0
 abbrev pub excess_of : ℤ → ℕ → ℕ
 excess_of loss offset = positive (loss -ℤ pos offset)
 
+-- the excess in column k, and nothing where k is no scenario
+abbrev pub excess_at : ℕ → List ℤ → ℕ → List Position → ℕ → ℕ
+excess_at scenarios sheet offset ps k = cond (nat_lt k scenarios) (excess_of (loss_in sheet scenarios k ps) offset) 0
+
 -- column k after an account: the excess is added where k is a scenario
 abbrev pub raised_at : ℕ → List ℤ → ℕ → List Position → List ℕ → ℕ → ℕ
-raised_at scenarios sheet offset ps columns k = slice_index columns k + cond (nat_lt k scenarios) (excess_of (loss_in sheet scenarios k ps) offset) 0
+raised_at scenarios sheet offset ps columns k = slice_index columns k + excess_at scenarios sheet offset ps k
 
 -- the columns after an account, however many there are
 abbrev pub raised : ℕ → List ℤ → ℕ → List Position → List ℕ → List ℕ
@@ -58,7 +57,7 @@ change_ok z = nat_le (unsigned_abs z) change_limit
 
 -- the length is that of 1 to 64 whole assets, and each change is in range
 abbrev pub sheet_ok : ℕ → List ℤ → Bool
-sheet_ok scenarios sheet = within 1 most_assets (length sheet / scenarios) && (length sheet % scenarios == 0 && every change_ok sheet)
+sheet_ok scenarios sheet = within 1 most_assets (length sheet / scenarios) && (length sheet % scenarios == 0 && list_all change_ok sheet)
 
 -- the assets of a sheet
 abbrev pub assets_of : ℕ → List ℤ → ℕ
@@ -74,7 +73,7 @@ position_ok assets p = nat_lt p.asset assets && quantity_ok p.quantity
 
 -- at most 64 positions, each of them good
 abbrev pub positions_ok : ℕ → List Position → Bool
-positions_ok assets ps = nat_le (length ps) most_positions && every (position_ok assets) ps
+positions_ok assets ps = nat_le (length ps) most_positions && list_all (position_ok assets) ps
 
 abbrev pub margins_ok : Account → Bool
 margins_ok a = nat_le a.required margin_limit && nat_le a.posted margin_limit
@@ -88,7 +87,7 @@ add_tests scenarios columns sheet a ps =
     (sheet_ok scenarios sheet, Sheet)
     ∷ (positions_ok (assets_of scenarios sheet) ps, Positions)
     ∷ (margins_ok a, Margin)
-    ∷ (every column_ok (raised scenarios sheet (offset_of a) ps columns), Column)
+    ∷ (list_all column_ok (raised scenarios sheet (offset_of a) ps columns), Column)
     ∷ []
 
 -- the new columns, or the first refusal
@@ -120,12 +119,3 @@ product_limit = quantity_limit * change_limit
 
 abbrev pub gain_limit : ℕ
 gain_limit = most_positions * product_limit
-
--- a sheet and positions that passed their tests
-pub record Tested (sheet : List ℤ) (scenarios assets : ℕ) (ps : List Position) : Type 0 where
-  pub long : length sheet ≡ scenarios * assets
-  pub narrow : scenarios ≤ most_scenarios
-  pub few : assets ≤ most_assets
-  pub changes : every change_ok sheet ≡ true
-  pub count : length ps ≤ most_positions
-  pub held : every (position_ok assets) ps ≡ true

@@ -17,9 +17,9 @@ heading_tests member segment day scenarios =
 
 -- the heading of these numbers
 pub record Headed (h : Heading) (m s d n : ℕ) : Type 0 where
-  pub member : h.closing.member ≡ m
-  pub segment : h.closing.segment ≡ s
-  pub day : h.closing.day ≡ d
+  pub member : h.closing.member.number ≡ m
+  pub segment : h.closing.segment.number ≡ s
+  pub day : h.closing.day.number ≡ d
   pub scenarios : h.scenarios ≡ n
 
 -- a tally starts with a zero in each of its columns

@@ -1,89 +1,77 @@
-// An account's gain, its offset, and the columns that it raises.
+// What an account adds to the columns of a tally.
 
-ghost use Rattle.std.specs.Prelude.{◌≡◌, ℕ, ◌*◌, ◌<◌, ◌≤◌, true, length, ◌*ℤ◌, neg_ℤ, slice_index, unsigned_abs};
-ghost use Rattle.figures.specs.Accounts.{Limited, Tested, change_in, change_ok, column_ok, every, excess_of, gain_limit, gain_in, offset_of, product_limit, quantity_ok, raised};
-ghost use Rattle.terms.specs.Limits.{margin_limit, most_assets, most_scenarios};
+ghost use Rattle.std.specs.Prelude.{◌≡◌, ◌<◌, ◌≤◌, true, ◌*ℤ◌, neg_ℤ, unsigned_abs};
+ghost use Rattle.std.specs.List.{list_all};
+ghost use Rattle.figures.specs.Accounts.{Limited, change_ok, column_ok, excess_at, excess_of, gain_limit, gain_in, product_limit, quantity_ok, raised};
 
-use crate::kinds::{Account, Kind, Position};
-use terms::limits::COLUMN_LIMIT;
-
-// What may be set against an account's loss: all of an own account's required margin, but of a client's no more than
-// was posted.
-pub(crate) fn offset(account: Account) -> u64
-    ensures { result ≡ offset_of account }
-{
-    match account.kind {
-        Kind::Own => account.required,
-        Kind::Client => account.required.min(account.posted),
-    }
-}
-
-fn change_at(sheet: &[i32], scenarios: usize, j: usize, assets: usize, asset: usize) -> i64
-    requires { (length sheet.now ≡ scenarios * assets) × ((scenarios ≤ most_scenarios) × ((assets ≤ most_assets) × ((j < scenarios) × (asset < assets)))) }
-    ensures { result ≡ change_in sheet.now scenarios j asset }
-{
-    sheet[asset * scenarios + j] as i64
-}
-
-fn times(q: i64, c: i64) -> i64
-    requires { (quantity_ok q ≡ true) × (change_ok c ≡ true) }
-    ensures is { result ≡ q *ℤ c }
-    ensures bounded { unsigned_abs result ≤ product_limit }
-{
-    q * c
-}
-
-// What the positions gain in scenario `j`: the sum of quantity times change.
-fn gain(sheet: &[i32], scenarios: usize, j: usize, assets: usize, positions: &[Position]) -> i64
-    requires tested { Tested sheet.now scenarios assets positions.now }
-    requires here { j < scenarios }
-    ensures is { result ≡ gain_in sheet.now scenarios j positions.now }
-    ensures bounded { unsigned_abs result ≤ gain_limit }
-{
-    let mut sum: i64 = 0;
-    for p in positions {
-        let change = change_at(sheet, scenarios, j, assets, p.asset as usize);
-        let worth = times(p.quantity, change);
-        sum += worth;
-    }
-    sum
-}
+use crate::checks::{Holding, Offset};
+use crate::kinds::Position;
+use std::array;
+use terms::limits::{COLUMN_LIMIT, MOST_SCENARIOS};
 
 // The loss, which is minus the gain, less the offset, if that is positive.
-fn excess(gain: i64, offset: u64) -> u64
-    requires { (unsigned_abs gain ≤ gain_limit) × (offset ≤ margin_limit) }
-    ensures is { result ≡ excess_of (neg_ℤ gain) offset }
+fn excess(gain: i64, offset: Offset) -> u64
+    requires { unsigned_abs gain ≤ gain_limit }
+    ensures is { result ≡ excess_of (neg_ℤ gain) offset.pesos }
     ensures bounded { result ≤ gain_limit }
 {
-    let over = -gain - offset as i64;
+    let over = -gain - offset.pesos as i64;
     if over > 0 { over as u64 } else { 0 }
 }
 
-// Raises each scenario's column by the excess there; false where one would pass its limit.
-pub(crate) fn raise(
-    columns: &mut [u64],
-    sheet: &[i32],
-    scenarios: usize,
-    assets: usize,
-    offset: u64,
-    positions: &[Position],
-) -> bool
-    requires tested { Tested sheet.now scenarios assets positions.now }
-    requires room { (scenarios ≤ length columns.old) × (offset ≤ margin_limit) }
-    requires small { Limited columns.old }
-    ensures fits { result ≡ every column_ok (raised scenarios sheet.now offset positions.now columns.old) }
-    ensures is { result ≡ true → columns.new ≡ raised scenarios sheet.now offset positions.now columns.old }
-    ensures small { Limited columns.new }
-    ensures past { (k : ℕ) → scenarios ≤ k → slice_index columns.new k ≡ slice_index columns.old k }
-{
-    for j in 0..scenarios {
-        let g = gain(sheet, scenarios, j, assets, positions);
-        let e = excess(g, offset);
-        let new = columns[j] + e;
-        if new > COLUMN_LIMIT {
-            return false;
-        }
-        columns[j] = new;
+impl Position {
+    // What it gains where its asset's price changes so much.
+    fn gain(&self, change: i64) -> i64
+        requires { (quantity_ok self.now.quantity ≡ true) × (change_ok change ≡ true) }
+        ensures is { result ≡ self.now.quantity *ℤ change }
+        ensures bounded { unsigned_abs result ≤ product_limit }
+    {
+        self.quantity * change
     }
-    true
+}
+
+impl Holding<'_> {
+    // What the positions gain in the scenario: the sum of quantity times change.
+    fn gain(&self, scenario: usize) -> i64
+        requires { scenario < self.now.sheet.scenarios }
+        ensures is { result ≡ gain_in self.now.sheet.changes.now self.now.sheet.scenarios scenario self.now.positions.now }
+        ensures bounded { unsigned_abs result ≤ gain_limit }
+    {
+        let mut sum: i64 = 0;
+        for p in self.positions {
+            sum += p.gain(self.sheet.change(p.asset as usize, scenario));
+        }
+        sum
+    }
+
+    // How much of the loss in column `j` stands above the offset; nothing where there is no such scenario.
+    fn excess(&self, j: usize, offset: Offset) -> u64
+        ensures is { result ≡ excess_at self.now.sheet.scenarios self.now.sheet.changes.now offset.pesos self.now.positions.now j }
+        ensures bounded { result ≤ gain_limit }
+    {
+        if j < self.sheet.scenarios {
+            excess(self.gain(j), offset)
+        } else {
+            0
+        }
+    }
+
+    // The columns, each raised by the excess there.
+    pub(crate) fn raised(
+        &self,
+        columns: [u64; MOST_SCENARIOS],
+        offset: Offset,
+    ) -> [u64; MOST_SCENARIOS]
+        requires { Limited columns }
+        ensures { result ≡ raised self.now.sheet.scenarios self.now.sheet.changes.now offset.pesos self.now.positions.now columns }
+    {
+        array::from_fn(|j| columns[j] + self.excess(j, offset))
+    }
+}
+
+// One call of the library's `all`, as the numbers of individual amounts have: a function for both would be no shorter than either.
+pub(crate) fn columns_ok(columns: &[u64]) -> bool
+    ensures { result ≡ list_all column_ok columns.now }
+{
+    columns.iter().all(|column| *column <= COLUMN_LIMIT)
 }

@@ -1,9 +1,10 @@
 // The types of the protocol: accounts and positions, and heading, tally and figure with what each of them keeps.
 
-ghost use Rattle.std.specs.Prelude.{◌≡◌, ℕ, ◌≤◌, length, slice_index};
-ghost use Rattle.terms.specs.Limits.{column_limit, figure_limit, day_limit, last_member, last_segment, most_scenarios};
+ghost use Rattle.std.specs.Prelude.{◌≡◌, ℕ, ◌≤◌, slice_index};
+ghost use Rattle.terms.specs.Limits.{column_limit, figure_limit, most_scenarios};
 
 use terms::limits::MOST_SCENARIOS;
+use terms::{Day, Member, Segment};
 
 /// Whose account it is: the member's own, or one that it holds for a client.
 #[derive(Clone, Copy, PartialEq, Eq, Debug)]
@@ -21,27 +22,25 @@ pub struct Account {
 }
 
 /// So many of an asset, negative where they are owed. Assets are counted from 0.
-#[derive(Clone, Copy)]
+#[derive(Clone, Copy, Default)]
 pub struct Position {
     pub asset: u64,
     pub quantity: i64,
 }
 
-/// One member's closing in a segment on a day, its numbers checked.
+/// One member's closing in a segment on a day.
 #[derive(Drop)]
 pub(crate) struct Closing {
-    pub(crate) member: u64,
-    pub(crate) segment: u64,
-    pub(crate) day: u64,
-    ghost members: { (1 ≤ member) × (member ≤ last_member) },
-    ghost segments: { (1 ≤ segment) × (segment ≤ last_segment) },
-    ghost days: { (1 ≤ day) × (day ≤ day_limit) },
+    pub(crate) member: Member,
+    pub(crate) segment: Segment,
+    pub(crate) day: Day,
 }
 
 /// A checked heading. It only opens a tally.
 #[derive(Drop)]
 pub struct Heading {
     pub(crate) closing: Closing,
+    // A plain count, here and in the tally: as an `UpTo` it would need `MOST_SCENARIOS` a second time, as a `u64`.
     pub(crate) scenarios: usize,
     ghost counts: { (1 ≤ scenarios) × (scenarios ≤ most_scenarios) },
 }
@@ -53,7 +52,6 @@ pub struct Tally {
     pub(crate) scenarios: usize,
     pub(crate) columns: [u64; MOST_SCENARIOS],
     ghost counts: { (1 ≤ scenarios) × (scenarios ≤ most_scenarios) },
-    ghost long: { length columns ≡ most_scenarios },
     ghost small: { (k : ℕ) → slice_index columns k ≤ column_limit },
     ghost unused: { (k : ℕ) → scenarios ≤ k → slice_index columns k ≡ 0 },
 }

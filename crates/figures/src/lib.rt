@@ -35,32 +35,16 @@ mod tests {
         Ok(tally.strike().set_aside())
     }
 
-    fn refusal(heading: Result<Heading, Refusal>) -> Option<Refusal> {
-        match heading {
-            Ok(_) => None,
-            Err(refusal) => Some(refusal),
-        }
-    }
-
     #[test]
     fn headings_at_their_limits(rt: HostRuntime) {
-        assert_eq!(rt; refusal(Heading::check(64, 5, 1_000_000, 64)), None);
+        assert_eq!(rt; Heading::check(64, 5, 1_000_000, 64).err(), None);
+        assert_eq!(rt; Heading::check(65, 6, 0, 65).err(), Some(Refusal::Member));
+        assert_eq!(rt; Heading::check(1, 6, 0, 65).err(), Some(Refusal::Segment));
         assert_eq!(rt;
-            refusal(Heading::check(65, 6, 0, 65)),
-            Some(Refusal::Member)
-        );
-        assert_eq!(rt;
-            refusal(Heading::check(1, 6, 0, 65)),
-            Some(Refusal::Segment)
-        );
-        assert_eq!(rt;
-            refusal(Heading::check(1, 1, 1_000_001, 65)),
+            Heading::check(1, 1, 1_000_001, 65).err(),
             Some(Refusal::Day)
         );
-        assert_eq!(rt;
-            refusal(Heading::check(1, 1, 1, 65)),
-            Some(Refusal::Scenarios)
-        );
+        assert_eq!(rt; Heading::check(1, 1, 1, 65).err(), Some(Refusal::Scenarios));
     }
 
     #[test]

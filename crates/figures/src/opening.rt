@@ -5,8 +5,8 @@ ghost use Rattle.std.specs.Prelude.{◌≡◌, IfOk};
 ghost use Rattle.terms.specs.Refusing.{first_refusal, refusal_of};
 
 use crate::kinds::{Closing, Heading, Tally};
-use terms::Refusal;
-use terms::limits::{LAST_DAY, LAST_MEMBER, LAST_SEGMENT, MOST_SCENARIOS};
+use terms::limits::MOST_SCENARIOS;
+use terms::{Day, Member, Refusal, Segment};
 
 impl Heading {
     /// Checks a heading's numbers. Refuses, in this order, a member, a segment, a day and a scenario count out of range.
@@ -14,24 +14,16 @@ impl Heading {
         ensures refusal { refusal_of result ≡ first_refusal (heading_tests member segment day scenarios) }
         ensures is { IfOk result (λ h. Headed h member segment day scenarios) }
     {
-        if member < 1 || member > LAST_MEMBER {
-            return Err(Refusal::Member);
-        }
-        if segment < 1 || segment > LAST_SEGMENT {
-            return Err(Refusal::Segment);
-        }
-        if day < 1 || day > LAST_DAY {
-            return Err(Refusal::Day);
-        }
-        if scenarios < 1 || scenarios > MOST_SCENARIOS as u64 {
+        let closing = Closing {
+            member: Member::numbered(member).ok_or(Refusal::Member)?,
+            segment: Segment::numbered(segment).ok_or(Refusal::Segment)?,
+            day: Day::numbered(day).ok_or(Refusal::Day)?,
+        };
+        if !(1..=MOST_SCENARIOS as u64).contains(&scenarios) {
             return Err(Refusal::Scenarios);
         }
         Ok(Heading {
-            closing: Closing {
-                member,
-                segment,
-                day,
-            },
+            closing,
             scenarios: scenarios as usize,
         })
     }

@@ -1,15 +1,15 @@
 // A tally that takes accounts and is struck, and the figure that comes of it.
 
 ghost use Rattle.figures.specs.Accounts.{Added, add_tests, columns_after};
-ghost use Rattle.figures.specs.Strikes.{Struck, largest_of, numbers_of};
+ghost use Rattle.figures.specs.Strikes.{Struck, largest_of, numbers_at, numbers_of};
 ghost use Rattle.terms.specs.Refusing.{first_refusal, refusal_of};
 ghost use Rattle.std.specs.Prelude.{◌≡◌};
 
-use crate::checks::{margins_ok, positions_ok, sheet_ok};
-use crate::columns::{offset, raise};
+use crate::checks::Sheet;
+use crate::columns::columns_ok;
 use crate::kinds::{Account, Closing, Figure, Numbers, Position, Tally};
-use terms::Refusal;
 use terms::limits::MIL;
+use terms::{Member, Refusal, Segment};
 
 impl Tally {
     /// Adds an account: where its loss in a scenario exceeds its offset, the excess is added to that column.
@@ -26,29 +26,14 @@ impl Tally {
         ensures refusal { refusal_of result ≡ first_refusal (add_tests self.old.scenarios self.old.columns sheet.now account positions.now) }
         ensures after { Added self.old self.new (columns_after result self.old.scenarios self.old.columns sheet.now account positions.now) }
     {
-        let scenarios = self.scenarios;
-        if !sheet_ok(scenarios, sheet) {
-            return Err(Refusal::Sheet);
-        }
-        let assets = sheet.len() / scenarios;
-        if !positions_ok(assets, positions) {
-            return Err(Refusal::Positions);
-        }
-        if !margins_ok(account) {
-            return Err(Refusal::Margin);
-        }
-        let mut new = self.columns;
-        if !raise(
-            &mut new,
-            sheet,
-            scenarios,
-            assets,
-            offset(account),
-            positions,
-        ) {
+        let sheet = Sheet::read(self.scenarios, sheet)?;
+        let holding = sheet.holding(positions)?;
+        let offset = account.offset()?;
+        let columns = holding.raised(self.columns, offset);
+        if !columns_ok(&columns) {
             return Err(Refusal::Column);
         }
-        self.columns = new;
+        self.columns = columns;
         Ok(())
     }
 
@@ -64,7 +49,7 @@ impl Tally {
         let most = largest(&columns);
         Figure {
             closing,
-            amount: (most + (MIL - 1)) / MIL,
+            amount: most.div_ceil(MIL),
         }
     }
 }
@@ -72,11 +57,21 @@ impl Tally {
 fn largest(columns: &[u64]) -> u64
     ensures { result ≡ largest_of columns.now }
 {
-    let mut most: u64 = 0;
-    for c in columns {
-        most = most.max(*c);
+    columns.iter().fold(0, |most, column| most.max(*column))
+}
+
+impl Closing {
+    // What a figure of this closing says.
+    fn numbers(&self, amount: u64) -> Numbers
+        ensures { result ≡ numbers_at self.now amount }
+    {
+        Numbers {
+            member: self.member.number(),
+            segment: self.segment.number(),
+            day: self.day.number(),
+            amount,
+        }
     }
-    most
 }
 
 impl Figure {
@@ -84,12 +79,21 @@ impl Figure {
     pub fn read(&self) -> Numbers
         ensures { result ≡ numbers_of self.now }
     {
-        Numbers {
-            member: self.closing.member,
-            segment: self.closing.segment,
-            day: self.closing.day,
-            amount: self.amount,
-        }
+        self.closing.numbers(self.amount)
+    }
+
+    /// The member whose figure it is.
+    pub fn member(&self) -> Member
+        ensures { result ≡ self.now.closing.member }
+    {
+        self.closing.member
+    }
+
+    /// The segment that it was struck in.
+    pub fn segment(&self) -> Segment
+        ensures { result ≡ self.now.closing.segment }
+    {
+        self.closing.segment
     }
 
     /// Sets the figure aside: it is used up, and what it said is answered.
@@ -97,16 +101,6 @@ impl Figure {
         ensures { result ≡ numbers_of self }
     {
         let Figure { closing, amount } = self;
-        let Closing {
-            member,
-            segment,
-            day,
-        } = closing;
-        Numbers {
-            member,
-            segment,
-            day,
-            amount,
-        }
+        closing.numbers(amount)
     }
 }

@@ -4,44 +4,40 @@ ghost use Rattle.std.specs.Prelude.{◌≡◌, ◌≤◌, IfErr};
 ghost use Rattle.figures.specs.Strikes.{numbers_of};
 ghost use Rattle.fund.specs.Bookings.{answer_of};
 ghost use Rattle.fund.specs.Calls.{BookFigure};
-ghost use Rattle.tables.specs.Book.{IsMember, IsSegment};
 ghost use Rattle.terms.specs.Limits.{figure_limit};
 
 use crate::unbooked::Unbooked;
 use figures::{Figure, Numbers};
-use tables::within::place_of;
-use tables::{Pledges, Seat, is_book};
-use terms::Refusal;
+use tables::{Pledges, Seat, Tables, place_of};
 use terms::limits::MOST_DAYS;
+use terms::{Member, Refusal, Segment};
 
 // Books a figure by its numbers alone, so that any form of figure is booked alike.
-fn booked(seats: &mut [Seat], pledges: &[Pledges], figure: Numbers) -> Result<(), Refusal>
-    requires { (IsMember figure.member) × ((IsSegment figure.segment) × (figure.amount ≤ figure_limit)) }
-    ensures { BookFigure seats.old pledges.now figure result seats.new }
+fn booked(
+    seats: &mut [Seat],
+    pledges: &[Pledges],
+    member: Member,
+    segment: Segment,
+    day: u64,
+    amount: u64,
+) -> Result<(), Refusal>
+    requires { amount ≤ figure_limit }
+    ensures { BookFigure seats.old pledges.now (record { member = member.number; segment = segment.number; day = day; amount = amount }) result seats.new }
 {
-    if !is_book(seats, pledges) {
-        return Err(Refusal::NoBook);
-    }
-    let at = place_of(figure.member, figure.segment);
-    let seat = seats[at];
-    if seat.class == 0 {
-        return Err(Refusal::NoSeat);
-    }
-    if figure.day <= seat.last_day {
+    let tables = Tables::read(seats, pledges)?;
+    let seat = tables.taken_seat(member, segment)?;
+    if day <= seat.last_day {
         return Err(Refusal::PastDay);
     }
     if seat.days >= MOST_DAYS {
         return Err(Refusal::DaysFull);
     }
-    seats[at] = Seat {
-        class: seat.class,
-        minimum: seat.minimum,
-        held: seat.held,
-        asked: seat.asked,
-        sum: seat.sum + figure.amount,
+    seats[place_of(member, segment)] = Seat {
+        sum: seat.sum + amount,
         days: seat.days + 1,
-        last_day: figure.day,
-        last_figure: figure.amount,
+        last_day: day,
+        last_figure: amount,
+        ..seat
     };
     Ok(())
 }
@@ -54,7 +50,16 @@ pub fn book(seats: &mut [Seat], pledges: &[Pledges], figure: Figure) -> Result<(
     ensures is { BookFigure seats.old pledges.now (numbers_of figure) (answer_of result) seats.new }
     ensures back { IfErr result (λ u. u.figure ≡ figure) }
 {
-    match booked(seats, pledges, figure.read()) {
+    let Numbers { day, amount, .. } = figure.read();
+    // By `match` and no `map_err`: the figure is moved one way or the other, and a closure would take it in both.
+    match booked(
+        seats,
+        pledges,
+        figure.member(),
+        figure.segment(),
+        day,
+        amount,
+    ) {
         Ok(()) => {
             let _ = figure.set_aside();
             Ok(())

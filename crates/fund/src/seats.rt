@@ -2,10 +2,9 @@
 
 ghost use Rattle.fund.specs.Calls.{Admit, Depart, Pay, Withdraw};
 
-use crate::checks::{is_class, minimum_fits, paid_fits};
-use tables::within::{has_room, is_alike, is_amount, is_member, is_segment, place_of, shares_in};
-use tables::{Pledges, Seat, is_book};
-use terms::Refusal;
+use crate::joining::Joining;
+use tables::{Pledges, Seat, Tables, place_of};
+use terms::{Amount, Class, Member, Refusal, Segment};
 
 /// Admits a member to a segment in a class, with its minimum and what it paid.
 ///
@@ -13,6 +12,7 @@ use terms::Refusal;
 /// is unknown or unlike the member's other seats; a minimum not as a book has it; a payment below the minimum or out of
 /// range, or any for an exempt class; more than the segment may hold. The seat then holds what was paid, its minimum is
 /// asked of it, and the rest is 0.
+// The class comes as a number, here and wherever a call is told one: a call has to turn down a number that is no class's.
 pub fn admit(
     seats: &mut [Seat],
     pledges: &[Pledges],
@@ -24,44 +24,30 @@ pub fn admit(
 ) -> Result<(), Refusal>
     ensures { Admit seats.old pledges.now member segment class minimum paid result seats.new }
 {
-    if !is_book(seats, pledges) {
-        return Err(Refusal::NoBook);
-    }
-    if !is_member(member) {
-        return Err(Refusal::Member);
-    }
-    if !is_segment(segment) {
-        return Err(Refusal::Segment);
-    }
-    let at = place_of(member, segment);
-    if seats[at].class != 0 {
+    let tables = Tables::read(seats, pledges)?;
+    let member = Member::numbered(member).ok_or(Refusal::Member)?;
+    let segment = Segment::numbered(segment).ok_or(Refusal::Segment)?;
+    if tables.seat(member, segment).is_taken() {
         return Err(Refusal::SeatTaken);
     }
-    if !is_class(class) {
+    if Class::try_from(class).is_err() || !tables.is_alike(member, class) {
         return Err(Refusal::WrongClass);
     }
-    if !is_alike(seats, member, class) {
-        return Err(Refusal::WrongClass);
-    }
-    if !minimum_fits(class, minimum) {
-        return Err(Refusal::Minimum);
-    }
-    if !paid_fits(class, minimum, paid) {
-        return Err(Refusal::Amount);
-    }
-    if !has_room(seats, segment, paid) {
-        return Err(Refusal::Ceiling);
-    }
-    seats[at] = Seat {
+    let joining = Joining {
         class,
         minimum,
-        held: paid,
-        asked: minimum,
-        sum: 0,
-        days: 0,
-        last_day: 0,
-        last_figure: 0,
+        paid,
     };
+    if !joining.minimum_fits() {
+        return Err(Refusal::Minimum);
+    }
+    if !joining.paid_fits() {
+        return Err(Refusal::Amount);
+    }
+    if !tables.has_room(segment, paid) {
+        return Err(Refusal::Ceiling);
+    }
+    seats[place_of(member, segment)] = joining.seat();
     Ok(())
 }
 
@@ -78,29 +64,18 @@ pub fn pay(
 ) -> Result<(), Refusal>
     ensures { Pay seats.old pledges.now member segment amount result seats.new }
 {
-    if !is_book(seats, pledges) {
-        return Err(Refusal::NoBook);
-    }
-    if !is_member(member) {
-        return Err(Refusal::Member);
-    }
-    if !is_segment(segment) {
-        return Err(Refusal::Segment);
-    }
-    let at = place_of(member, segment);
-    if seats[at].class == 0 {
-        return Err(Refusal::NoSeat);
-    }
-    if !shares_in(seats[at].class) {
+    let tables = Tables::read(seats, pledges)?;
+    let member = Member::numbered(member).ok_or(Refusal::Member)?;
+    let segment = Segment::numbered(segment).ok_or(Refusal::Segment)?;
+    let seat = tables.taken_seat(member, segment)?;
+    if !seat.shares() {
         return Err(Refusal::Exempt);
     }
-    if !is_amount(amount) {
-        return Err(Refusal::Amount);
-    }
-    if !has_room(seats, segment, amount) {
+    let amount = Amount::numbered(amount).ok_or(Refusal::Amount)?.number();
+    if !tables.has_room(segment, amount) {
         return Err(Refusal::Ceiling);
     }
-    seats[at].held += amount;
+    seats[place_of(member, segment)].held += amount;
     Ok(())
 }
 
@@ -117,26 +92,15 @@ pub fn withdraw(
 ) -> Result<(), Refusal>
     ensures { Withdraw seats.old pledges.now member segment amount result seats.new }
 {
-    if !is_book(seats, pledges) {
-        return Err(Refusal::NoBook);
-    }
-    if !is_member(member) {
-        return Err(Refusal::Member);
-    }
-    if !is_segment(segment) {
-        return Err(Refusal::Segment);
-    }
-    let at = place_of(member, segment);
-    if seats[at].class == 0 {
-        return Err(Refusal::NoSeat);
-    }
-    if !is_amount(amount) {
-        return Err(Refusal::Amount);
-    }
-    if seats[at].held < amount || seats[at].held - amount < seats[at].asked {
+    let tables = Tables::read(seats, pledges)?;
+    let member = Member::numbered(member).ok_or(Refusal::Member)?;
+    let segment = Segment::numbered(segment).ok_or(Refusal::Segment)?;
+    let seat = tables.taken_seat(member, segment)?;
+    let amount = Amount::numbered(amount).ok_or(Refusal::Amount)?.number();
+    if seat.held < amount || seat.held - amount < seat.asked {
         return Err(Refusal::TooLittleLeft);
     }
-    seats[at].held -= amount;
+    seats[place_of(member, segment)].held -= amount;
     Ok(())
 }
 
@@ -152,32 +116,13 @@ pub fn depart(
 ) -> Result<u64, Refusal>
     ensures { Depart seats.old pledges.now member segment result seats.new }
 {
-    if !is_book(seats, pledges) {
-        return Err(Refusal::NoBook);
-    }
-    if !is_member(member) {
-        return Err(Refusal::Member);
-    }
-    if !is_segment(segment) {
-        return Err(Refusal::Segment);
-    }
-    let at = place_of(member, segment);
-    let seat = seats[at];
-    if seat.class == 0 {
-        return Err(Refusal::NoSeat);
-    }
+    let tables = Tables::read(seats, pledges)?;
+    let member = Member::numbered(member).ok_or(Refusal::Member)?;
+    let segment = Segment::numbered(segment).ok_or(Refusal::Segment)?;
+    let seat = tables.taken_seat(member, segment)?;
     if seat.held < seat.asked {
         return Err(Refusal::Short);
     }
-    seats[at] = Seat {
-        class: 0,
-        minimum: 0,
-        held: 0,
-        asked: 0,
-        sum: 0,
-        days: 0,
-        last_day: 0,
-        last_figure: 0,
-    };
+    seats[place_of(member, segment)] = Seat::default();
     Ok(seat.held)
 }

@@ -8,7 +8,7 @@ use Rattle.share.proofs.Cuts.{in_proportion, part_le}
 use Rattle.tables.specs.Book.{IsMember}
 use Rattle.house.specs.Holders.{Holders, bears, charge_of, over_members, own_of, stake_of}
 use Rattle.house.specs.Promises.{ChargesFair, borne_of, stakes_of}
-use Rattle.house.specs.Rows.{Charged, charge_in}
+use Rattle.house.specs.Rows.{Charged, amount_in}
 
 module _ (x : Holders) (d : ℕ) (id : IsMember d) (quiet : (m : ℕ) → IsMember m → x.shares m ≡ false → x.held m ≡ 0) where
   stakes : ℕ → ℕ
@@ -57,33 +57,33 @@ module _ (x : Holders) (d : ℕ) (id : IsMember d) (quiet : (m : ℕ) → IsMemb
     module _ (charges : List ℕ) (is : Charged x d a charges) where
       borne_is : borne_of d charges ≡ a - own_of x d a
       borne_is =
-          sum_to_same last_member (λ k. cond (eqb (k + 1) d) 0 (charge_in charges (k + 1))) (part_by (a - own_of x d a) last_member (λ k. stake_of x d (k + 1)))
+          sum_to_same last_member (λ k. cond (eqb (k + 1) d) 0 (amount_in charges (k + 1))) (part_by (a - own_of x d a) last_member (λ k. stake_of x d (k + 1)))
           (λ k l.
           let e : k + 1 - 1 ≡ k = omega arith in
           ⊎_elim
           (λ (q : k + 1 ≡ d).
           let none : stake_of x d (k + 1) ≡ 0 = ap (λ (m : ℕ). stake_of x d m) q ∙ stake_own in
-          omega (arith, cond-true (eqb (k + 1) d) 0 (charge_in charges (k + 1)) (eq-eqb (k + 1) d q), part_le (a - own_of x d a) last_member (λ i. stake_of x d (i + 1)) k rest_enough, none))
+          omega (arith, cond-true (eqb (k + 1) d) 0 (amount_in charges (k + 1)) (eq-eqb (k + 1) d q), part_le (a - own_of x d a) last_member (λ i. stake_of x d (i + 1)) k rest_enough, none))
           (λ (ne : k + 1 ≡ d → ⊥).
-          cond-false (eqb (k + 1) d) 0 (charge_in charges (k + 1)) (ne_eqb (k + 1) d ne) ∙ is.each (k + 1) (omega arith, omega arith) ∙ other_charge (k + 1) ne ∙ ap (λ (i : ℕ). part_by (a - own_of x d a) last_member (λ k. stake_of x d (k + 1)) i) e)
+          cond-false (eqb (k + 1) d) 0 (amount_in charges (k + 1)) (ne_eqb (k + 1) d ne) ∙ is.each (k + 1) (omega arith, omega arith) ∙ other_charge (k + 1) ne ∙ ap (λ (i : ℕ). part_by (a - own_of x d a) last_member (λ k. stake_of x d (k + 1)) i) e)
           (cases_eq (k + 1) d))
           ∙ (in_proportion (a - own_of x d a) last_member (λ k. stake_of x d (k + 1)) rest_enough).all
 
-      charges_all : over_members (charge_in charges) ≡ a
+      charges_all : over_members (amount_in charges) ≡ a
       charges_all =
           let e = back d id in
-          let f : ℕ → ℕ = λ k. charge_in charges (k + 1) in
-          let g : ℕ → ℕ = λ k. cond (eqb (k + 1) d) 0 (charge_in charges (k + 1)) in
-          let ch = sum_to_changed last_member f g (d - 1) (omega (arith, id.0, id.1)) (λ k l ne. sym (cond-false (eqb (k + 1) d) 0 (charge_in charges (k + 1)) (ne_eqb (k + 1) d (λ q. ne (omega arith))))) in
-          let zero_at : g (d - 1) ≡ 0 = cond-true (eqb (d - 1 + 1) d) 0 (charge_in charges (d - 1 + 1)) (eq-eqb (d - 1 + 1) d e) in
-          let own_at : f (d - 1) ≡ own_of x d a = ap (λ (m : ℕ). charge_in charges m) e ∙ is.each d id ∙ own_charge in
+          let f : ℕ → ℕ = λ k. amount_in charges (k + 1) in
+          let g : ℕ → ℕ = λ k. cond (eqb (k + 1) d) 0 (amount_in charges (k + 1)) in
+          let ch = sum_to_changed last_member f g (d - 1) (omega (arith, id.0, id.1)) (λ k l ne. sym (cond-false (eqb (k + 1) d) 0 (amount_in charges (k + 1)) (ne_eqb (k + 1) d (λ q. ne (omega arith))))) in
+          let zero_at : g (d - 1) ≡ 0 = cond-true (eqb (d - 1 + 1) d) 0 (amount_in charges (d - 1 + 1)) (eq-eqb (d - 1 + 1) d e) in
+          let own_at : f (d - 1) ≡ own_of x d a = ap (λ (m : ℕ). amount_in charges m) e ∙ is.each d id ∙ own_charge in
           omega (arith, ch, zero_at, own_at, borne_is)
 
       -- a member that bears the loss
       another : (m : ℕ) → bears x d m ≡ true → m ≡ d → ⊥
       another m h = eqb-false m d (not-true (eqb m d) (and_parts (x.shares m) (not (eqb m d)) h).1)
 
-      part_is : (m : ℕ) → IsMember m → bears x d m ≡ true → charge_in charges m ≡ part_by (a - own_of x d a) last_member (λ k. stake_of x d (k + 1)) (m - 1)
+      part_is : (m : ℕ) → IsMember m → bears x d m ≡ true → amount_in charges m ≡ part_by (a - own_of x d a) last_member (λ k. stake_of x d (k + 1)) (m - 1)
       part_is m im h = is.each m im ∙ other_charge m (another m h)
 
       stake_is : (m : ℕ) → IsMember m → bears x d m ≡ true → stake_of x d (m - 1 + 1) ≡ x.held m

@@ -1,3 +1,4 @@
 pub mod Charging
 mod Staking
 mod LossBooks
+mod Bearing

@@ -11,7 +11,7 @@ use Rattle.tables.proofs.SeatKinds.{empty_back, exempt_back, kind_empty, kind_ex
 use Rattle.tables.proofs.Segments.{held_here, written_book}
 use Rattle.house.specs.Loss.{charged_all, charged_by, holders_in}
 use Rattle.house.specs.Promises.{ChargesFair}
-use Rattle.house.specs.Rows.{charge_in}
+use Rattle.house.specs.Rows.{amount_in}
 
 -- who does not share holds nothing
 unshared_held : (x : Seat) → Kind x → shares x.class ≡ false → x.held ≡ 0
@@ -50,15 +50,15 @@ module _ (t : List Seat) (p : List Pledges) (s : ℕ) (book : Book t p) (is : Is
 
   module _ (d a : ℕ) (charges : List ℕ) (fair : ChargesFair (holders_in t s) d a charges) where
     -- what is left of every seat
-    left_is : sum_to last_member (λ k. (charged_by (charge_in charges (k + 1)) (seat_at t (k + 1) s)).held) + a ≡ held_in t s
+    left_is : sum_to last_member (λ k. (charged_by (amount_in charges (k + 1)) (seat_at t (k + 1) s)).held) + a ≡ held_in t s
     left_is =
-        omega (arith, sum_to_minus last_member (λ k. (seat_at t (k + 1) s).held) (λ k. charge_in charges (k + 1)) (λ k l. fair.within (k + 1) (omega arith, omega arith)), fair.all)
+        omega (arith, sum_to_minus last_member (λ k. (seat_at t (k + 1) s).held) (λ k. amount_in charges (k + 1)) (λ k l. fair.within (k + 1) (omega arith, omega arith)), fair.all)
 
     pub held_falls : held_in (charged_all t s charges) s + a ≡ held_in t s
-    held_falls = ap (λ (v : ℕ). v + a) (held_here t s (λ m. charged_by (charge_in charges m) (seat_at t m s)) is book.seats) ∙ left_is
+    held_falls = ap (λ (v : ℕ). v + a) (held_here t s (λ m. charged_by (amount_in charges m) (seat_at t m s)) is book.seats) ∙ left_is
 
     pub loss_book : Book (charged_all t s charges) p
-    loss_book = written_book t s (λ m. charged_by (charge_in charges m) (seat_at t m s)) is book.seats p book
-        (λ m im. charged_sound (seat_at t m s) (charge_in charges m) (sound m im))
+    loss_book = written_book t s (λ m. charged_by (amount_in charges m) (seat_at t m s)) is book.seats p book
+        (λ m im. charged_sound (seat_at t m s) (amount_in charges m) (sound m im))
         (λ m im. refl)
         (omega (arith, book.ceiling s is, left_is))

@@ -3,4 +3,3 @@ pub mod Rows
 pub mod Loss
 pub mod Promises
 pub mod Pledging
-pub mod Staked

@@ -10,7 +10,7 @@ use Rattle.tables.specs.declared.records.Pledges.{Pledges}
 use Rattle.tables.specs.declared.records.Seat.{Seat}
 use Rattle.fund.specs.Calls.{Has, holding}
 use Rattle.house.specs.Holders.{Holders}
-use Rattle.house.specs.Rows.{Charged, charge_in}
+use Rattle.house.specs.Rows.{Charged, amount_in}
 
 -- who shares in a segment and what is held there, as the tables have it
 abbrev pub holders_in : List Seat → ℕ → Holders
@@ -34,7 +34,7 @@ charged_by charge x = holding (x.held - charge) x
 
 -- every seat of the segment pays its member's charge
 abbrev pub charged_all : List Seat → ℕ → List ℕ → List Seat
-charged_all t s charges = written t s (λ m. charged_by (charge_in charges m) (seat_at t m s))
+charged_all t s charges = written t s (λ m. charged_by (amount_in charges m) (seat_at t m s))
 
 abbrev pub Loss : List Seat → List Pledges → ℕ → ℕ → ℕ → List ℕ → Result (Unit {0}) Refusal → List Seat → List ℕ → Type 0
 Loss t p d s a charges r t' charges' =

@@ -1,7 +1,7 @@
 -- Pledges and releases: what each wants, in order, and what it leaves.
-use Rattle.std.specs.Prelude.{◌≡◌, ℕ, ◌+◌, ◌-◌, ◌≤◌, List, [], ◌∷◌, Result, slice_index_or, slice_set}
+use Rattle.std.specs.Prelude.{◌≡◌, ℕ, ◌+◌, ◌-◌, ◌≤◌, ◌⊎◌, List, [], ◌∷◌, Ok, Err, Result, slice_index_or, slice_set}
 use Rattle.terms.specs.Limits.{amount_limit}
-use Rattle.terms.specs.Refusing.{Judged, Wants}
+use Rattle.terms.specs.Refusing.{Fails, Judged, Met, Wants}
 use Rattle.terms.specs.declared.refusals.Refusal.{Refusal}
 use Rattle.terms.specs.declared.refusals.Refusal.TheVariants as refusals
 use Rattle.tables.specs.Book.{Book, IsAmount, IsMember, no_pledges}
@@ -23,6 +23,23 @@ pledge_of Extraordinary x = x.extraordinary
 abbrev pub pledging : PledgeKind → ℕ → Pledges → Pledges
 pledging Individual v x = record { individual = v; extraordinary = x.extraordinary }
 pledging Extraordinary v x = record { individual = x.individual; extraordinary = v }
+
+-- what a change of a pledge wants, in order, before it is judged by the pledge itself
+abbrev pub change_wants : List Seat → List Pledges → ℕ → ℕ → Wants
+change_wants t p m a =
+    (Book t p, refusals.NoBook)
+    ∷ (IsMember m, refusals.Member)
+    ∷ (IsAmount a, refusals.Amount)
+    ∷ []
+
+-- a pledge is changed to what `becomes` gives of it and the amount, or refused as it says
+abbrev pub Changed : (ℕ → ℕ → Result ℕ Refusal → Type 0) → List Seat → List Pledges → ℕ → PledgeKind → ℕ → Result (Unit {0}) Refusal → List Pledges → Type 0
+Changed becomes t p m kind a (Ok x) p' =
+    Met (change_wants t p m a)
+    × ((after : ℕ) × becomes (pledge_of kind (pledges_at p m)) a (Ok after) × (p' ≡ slice_set p (m - 1) (pledging kind after (pledges_at p m))))
+Changed becomes t p m kind a (Err e) p' =
+    (Fails (change_wants t p m a) e ⊎ (Met (change_wants t p m a) × becomes (pledge_of kind (pledges_at p m)) a (Err e)))
+    × (p' ≡ p)
 
 abbrev pub pledge_wants : List Seat → List Pledges → ℕ → PledgeKind → ℕ → Wants
 pledge_wants t p m kind a =

@@ -1,38 +1,36 @@
 // Pledges and releases.
 
-ghost use Rattle.std.specs.Prelude.{◌≡◌, ◌-◌, ◌<◌, OnOk};
-ghost use Rattle.house.specs.Pledging.{Pledge, Release, pledge_of, pledging};
+ghost use Rattle.std.specs.Prelude.{◌≡◌, ℕ, ◌+◌, ◌-◌, ◌<◌, ◌≤◌, Ok, Err, OnOk};
+ghost use Rattle.house.specs.Pledging.{Changed, Pledge, Release};
 ghost use Rattle.tables.specs.Book.{Book};
+ghost use Rattle.terms.specs.Limits.{amount_limit};
 
 use crate::kinds::PledgeKind;
-use tables::within::{is_amount, is_member};
-use tables::{Pledges, Seat, is_book};
-use terms::Refusal;
+use tables::{Pledges, Seat, Tables};
 use terms::limits::AMOUNT_LIMIT;
+use terms::{Amount, Member, Refusal};
 
-fn pledged(pledges: Pledges, kind: PledgeKind) -> u64
-    ensures { result ≡ pledge_of kind pledges }
+// Changes one of a member's pledges: `change` is told the pledge and the amount, and answers what the pledge becomes, or refuses.
+fn change_pledge<F: FnOnce(u64, u64) -> Result<u64, Refusal>>(
+    seats: &[Seat],
+    pledges: &mut [Pledges],
+    member: u64,
+    kind: PledgeKind,
+    amount: u64,
+    change: F,
+) -> Result<(), Refusal>
+    requires may { (old a : ℕ) → old ≤ amount_limit → a ≤ amount_limit → F.pre change old a }
+    requires small { (old a new : ℕ) → old ≤ amount_limit → a ≤ amount_limit → F.post change old a (Ok new) → new ≤ amount_limit }
+    ensures is { Changed (F.post change) seats.now pledges.old member kind amount result pledges.new }
+    ensures book { OnOk result (Book seats.now pledges.new) }
 {
-    match kind {
-        PledgeKind::Individual => pledges.individual,
-        PledgeKind::Extraordinary => pledges.extraordinary,
-    }
-}
-
-// The pledge of this kind becomes `amount`.
-fn with_pledge(pledges: Pledges, kind: PledgeKind, amount: u64) -> Pledges
-    ensures { result ≡ pledging kind amount pledges }
-{
-    match kind {
-        PledgeKind::Individual => Pledges {
-            individual: amount,
-            extraordinary: pledges.extraordinary,
-        },
-        PledgeKind::Extraordinary => Pledges {
-            individual: pledges.individual,
-            extraordinary: amount,
-        },
-    }
+    let tables = Tables::read(seats, pledges)?;
+    let member = Member::numbered(member).ok_or(Refusal::Member)?;
+    let amount = Amount::numbered(amount).ok_or(Refusal::Amount)?;
+    let before = tables.pledges_of(member);
+    let after = change(kind.pledged(before), amount.number())?;
+    pledges[member.index()] = kind.with_pledge(before, after);
+    Ok(())
 }
 
 /// Adds an amount to one of a member's pledges. It needs no seat.
@@ -49,23 +47,20 @@ pub fn pledge(
     ensures is { Pledge seats.now pledges.old member kind amount result pledges.new }
     ensures book { OnOk result (Book seats.now pledges.new) }
 {
-    if !is_book(seats, pledges) {
-        return Err(Refusal::NoBook);
-    }
-    if !is_member(member) {
-        return Err(Refusal::Member);
-    }
-    if !is_amount(amount) {
-        return Err(Refusal::Amount);
-    }
-    let at = member as usize - 1;
-    let before = pledges[at];
-    let old = pledged(before, kind);
-    if old > AMOUNT_LIMIT - amount {
-        return Err(Refusal::Ceiling);
-    }
-    pledges[at] = with_pledge(before, kind, old + amount);
-    Ok(())
+    change_pledge(
+        seats,
+        pledges,
+        member,
+        kind,
+        amount,
+        |before: u64, amount: u64| {
+            let after = before + amount;
+            if after > AMOUNT_LIMIT {
+                return Err(Refusal::Ceiling);
+            }
+            Ok(after)
+        },
+    )
 }
 
 /// Releases an amount of one of a member's pledges.
@@ -81,21 +76,12 @@ pub fn release(
     ensures is { Release seats.now pledges.old member kind amount result pledges.new }
     ensures book { OnOk result (Book seats.now pledges.new) }
 {
-    if !is_book(seats, pledges) {
-        return Err(Refusal::NoBook);
-    }
-    if !is_member(member) {
-        return Err(Refusal::Member);
-    }
-    if !is_amount(amount) {
-        return Err(Refusal::Amount);
-    }
-    let at = member as usize - 1;
-    let before = pledges[at];
-    let old = pledged(before, kind);
-    if amount > old {
-        return Err(Refusal::TooLittleLeft);
-    }
-    pledges[at] = with_pledge(before, kind, old - amount);
-    Ok(())
+    change_pledge(
+        seats,
+        pledges,
+        member,
+        kind,
+        amount,
+        |before: u64, amount: u64| before.checked_sub(amount).ok_or(Refusal::TooLittleLeft),
+    )
 }

@@ -10,27 +10,6 @@ use tables::{Pledges, Seat};
 use terms::Refusal;
 use terms::limits::{ALL_MEMBERS, ALL_PLEDGES, ALL_SEATS};
 
-const NO_SEAT: Seat = Seat {
-    class: 0,
-    minimum: 0,
-    held: 0,
-    asked: 0,
-    sum: 0,
-    days: 0,
-    last_day: 0,
-    last_figure: 0,
-};
-
-const NO_PLEDGES: Pledges = Pledges {
-    individual: 0,
-    extraordinary: 0,
-};
-
-const NO_ROW: Row = Row {
-    ask: 0,
-    marked: false,
-};
-
 // A general member's seat that has paid its minimum and has one figure.
 fn general(minimum: u64, figure: u64) -> Seat {
     Seat {
@@ -47,13 +26,13 @@ fn general(minimum: u64, figure: u64) -> Seat {
 
 // Prints a strike of the first segment by the house's own rule.
 fn main(rt: HostRuntime) -> io::Result<()> {
-    let mut seats = [NO_SEAT; ALL_SEATS];
-    let pledges = [NO_PLEDGES; ALL_PLEDGES];
-    let mut rows = [NO_ROW; ALL_MEMBERS];
+    let mut seats = [Seat::default(); ALL_SEATS];
+    let pledges = [Pledges::default(); ALL_PLEDGES];
+    let mut rows = [Row::default(); ALL_MEMBERS];
     seats[0] = general(300_000, 4_000_000);
     seats[5] = general(300_000, 1_000_000);
     seats[10] = general(300_000, 100_000);
-    match strike(&mut seats, &pledges, 1, &MarkAll {}, &mut rows) {
+    match strike(&mut seats, &pledges, 1, &MarkAll, &mut rows) {
         Ok(fund) => println!(&rt; "fund={fund}")?,
         Err(refusal) => {
             let number = refusal.number();
@@ -72,37 +51,36 @@ fn main(rt: HostRuntime) -> io::Result<()> {
 mod tests {
     use super::*;
     use sizing::CoverTwo;
+    use tables::place_of;
+    use terms::{Member, Segment};
 
-    // The answer of a strike of segment 1 by the house's rule: the fund, or the refusal's number.
-    fn answered(answer: Result<u64, Refusal>) -> Result<u64, u8> {
-        match answer {
-            Ok(fund) => Ok(fund),
-            Err(refusal) => Err(refusal.number()),
+    // Every member in this segment, with a minimum of 1 and a figure of 0.
+    fn seat_everyone(seats: &mut [Seat; ALL_SEATS], segment: Segment) {
+        for member in Member::all() {
+            seats[place_of(member, segment)] = general(1, 0);
         }
     }
 
-    // Every member in the first segment, with a minimum of 1 and a figure of 0.
-    fn seat_everyone(seats: &mut [Seat]) {
-        for i in 0..seats.len() {
-            if i % 5 == 0 {
-                seats[i] = general(1, 0);
-            }
-        }
+    // The fund, or the refusal's number.
+    fn told(answer: Result<u64, Refusal>) -> Result<u64, u8> {
+        answer.map_err(|refusal| refusal.number())
     }
 
     #[test]
     fn sixty_four_members_with_means_of_0(rt: HostRuntime) {
-        let mut seats = [NO_SEAT; ALL_SEATS];
-        let mut rows = [NO_ROW; ALL_MEMBERS];
-        seat_everyone(&mut seats);
+        let mut seats = [Seat::default(); ALL_SEATS];
+        let mut rows = [Row::default(); ALL_MEMBERS];
+        if let Some(first) = Segment::numbered(1) {
+            seat_everyone(&mut seats, first);
+        }
         let answer = strike(
             &mut seats,
-            &[NO_PLEDGES; ALL_PLEDGES],
+            &[Pledges::default(); ALL_PLEDGES],
             1,
-            &MarkAll {},
+            &MarkAll,
             &mut rows,
         );
-        assert_eq!(rt; answered(answer), Ok(0));
+        assert_eq!(rt; told(answer), Ok(0));
         assert_eq!(rt;
             rows,
             [Row {
@@ -116,15 +94,15 @@ mod tests {
 
     // Two members with these figures, under cover-two.
     fn two_members(first: u64, second: u64) -> Result<u64, u8> {
-        let mut seats = [NO_SEAT; ALL_SEATS];
-        let mut rows = [NO_ROW; ALL_MEMBERS];
+        let mut seats = [Seat::default(); ALL_SEATS];
+        let mut rows = [Row::default(); ALL_MEMBERS];
         seats[0] = general(1, first);
         seats[5] = general(1, second);
-        answered(strike(
+        told(strike(
             &mut seats,
-            &[NO_PLEDGES; ALL_PLEDGES],
+            &[Pledges::default(); ALL_PLEDGES],
             1,
-            &CoverTwo {},
+            &CoverTwo,
             &mut rows,
         ))
     }
@@ -138,8 +116,8 @@ mod tests {
 
     #[test]
     fn a_quota_that_equals_its_minimum(rt: HostRuntime) {
-        let mut seats = [NO_SEAT; ALL_SEATS];
-        let mut rows = [NO_ROW; ALL_MEMBERS];
+        let mut seats = [Seat::default(); ALL_SEATS];
+        let mut rows = [Row::default(); ALL_MEMBERS];
         seats[4] = general(15_000, 15_000);
         seats[9] = Seat {
             class: 3,
@@ -147,16 +125,16 @@ mod tests {
             days: 7,
             last_day: 9,
             last_figure: 10,
-            ..NO_SEAT
+            ..Seat::default()
         };
         let answer = strike(
             &mut seats,
-            &[NO_PLEDGES; ALL_PLEDGES],
+            &[Pledges::default(); ALL_PLEDGES],
             5,
-            &MarkAll {},
+            &MarkAll,
             &mut rows,
         );
-        assert_eq!(rt; answered(answer), Ok(15_000));
+        assert_eq!(rt; told(answer), Ok(15_000));
         assert_eq!(rt; seats[4].asked, 20_000);
         assert_eq!(rt;
             seats[9],
@@ -164,25 +142,25 @@ mod tests {
                 class: 3,
                 last_day: 9,
                 last_figure: 10,
-                ..NO_SEAT
+                ..Seat::default()
             }
         );
-        assert_eq!(rt; rows[1], NO_ROW);
+        assert_eq!(rt; rows[1], Row::default());
     }
 
     #[test]
     fn rows_of_another_number(rt: HostRuntime) {
-        let mut seats = [NO_SEAT; ALL_SEATS];
-        let mut rows = [NO_ROW; 63];
+        let mut seats = [Seat::default(); ALL_SEATS];
+        let mut rows = [Row::default(); 63];
         seats[0] = general(1, 1);
         let answer = strike(
             &mut seats,
-            &[NO_PLEDGES; ALL_PLEDGES],
+            &[Pledges::default(); ALL_PLEDGES],
             1,
-            &MarkAll {},
+            &MarkAll,
             &mut rows,
         );
-        assert_eq!(rt; answered(answer), Err(27));
+        assert_eq!(rt; told(answer), Err(27));
         assert_eq!(rt; seats[0], general(1, 1));
     }
 }

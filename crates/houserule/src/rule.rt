@@ -10,7 +10,7 @@ use sizing::means::Means;
 
 /// Marks every place of the list, so that the fund is the sum of all means.
 #[derive(Clone, Copy)]
-pub(crate) struct MarkAll {}
+pub(crate) struct MarkAll;
 
 impl SizingRule for MarkAll {
     ghost marking = { λ _. mark_all };

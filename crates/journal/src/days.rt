@@ -1,69 +1,56 @@
 // Day files in a journal.
 
-ghost use Rattle.std.specs.Prelude.{◌<◌, ◌≤◌, length};
+ghost use Rattle.journal.specs.Days.{LineEndsBefore, begins, day_length};
+ghost use Rattle.std.specs.Prelude.{◌≡◌, ◌<◌, ◌≤◌, ◌==◌, codes, count_by, length};
 
-use daytext::upto;
+use daytext::split;
 
 /// Whether a day file begins here.
-pub fn is_day_file(bytes: &[u8]) -> bool {
-    match bytes {
-        [b'f', b'o', b'r', b'm', b'=', ..] => true,
-        _ => false,
-    }
-}
-
-fn is_end(bytes: &[u8]) -> bool {
-    match bytes {
-        [b'e', b'n', b'd', b'=', ..] => true,
-        _ => false,
-    }
-}
-
-// Where the line that begins at `from` ends, its byte 10 with it.
-fn line_end(bytes: &[u8], from: usize) -> usize
-    requires { from < length bytes.now }
-    ensures after { from < result }
-    ensures within { result ≤ length bytes.now }
+pub fn is_day_file(bytes: &[u8]) -> bool
+    ensures { result ≡ begins (codes "form=") bytes.now }
 {
-    let n = upto(&bytes[from..], b'\n');
-    if n == bytes.len() - from {
-        return bytes.len();
-    }
-    from + n + 1
+    matches!(bytes, [b'f', b'o', b'r', b'm', b'=', ..])
+}
+
+// Whether a day file's last line begins here. It is no case of one test with `is_day_file`: a slice pattern names its bytes, and
+// takes none from a parameter.
+fn is_end(bytes: &[u8]) -> bool
+    ensures { result ≡ begins (codes "end=") bytes.now }
+{
+    matches!(bytes, [b'e', b'n', b'd', b'=', ..])
+}
+
+// What follows the first line and its byte 10.
+fn after_line(bytes: &[u8]) -> &[u8]
+    ensures is { LineEndsBefore bytes.now result.now }
+    ensures within { length result.now ≤ length bytes.now }
+    ensures shorter { 0 < length bytes.now → length result.now < length bytes.now }
+{
+    split(bytes, b'\n').map_or(&bytes[bytes.len()..], |(_, rest)| rest)
 }
 
 /// How long the day file is that begins here: to and with the first line after the first that begins `end=`, or up to the
 /// next that begins `form=`, or to the end.
 pub fn day_file(bytes: &[u8]) -> usize
+    ensures is { result ≡ day_length bytes.now }
     ensures within { result ≤ length bytes.now }
     ensures some { 0 < length bytes.now → 0 < result }
 {
-    if bytes.len() == 0 {
-        return 0;
-    }
-    let mut at = line_end(bytes, 0);
-    while at < bytes.len() {
-        if is_day_file(&bytes[at..]) {
-            return at;
+    let mut rest = after_line(bytes);
+    while !rest.is_empty() && !is_day_file(rest) {
+        let others = after_line(rest);
+        if is_end(rest) {
+            return bytes.len() - others.len();
         }
-        let next = line_end(bytes, at);
-        if is_end(&bytes[at..]) {
-            return next;
-        }
-        at = next;
+        rest = others;
     }
-    at
+    bytes.len() - rest.len()
 }
 
 /// How many lines end in these bytes.
 pub fn lines_in(bytes: &[u8]) -> usize
-    ensures { result ≤ length bytes.now }
+    ensures is { result ≡ count_by (λ b. b == 10) bytes.now }
+    ensures within { result ≤ length bytes.now }
 {
-    let mut n = 0;
-    for b in bytes {
-        if *b == b'\n' {
-            n += 1;
-        }
-    }
-    n
+    bytes.iter().filter(|b| **b == b'\n').count()
 }

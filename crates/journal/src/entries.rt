@@ -1,7 +1,7 @@
 // The lines of a journal that make a call.
 
-ghost use Rattle.daytext.specs.Text.{parted};
-ghost use Rattle.journal.specs.Fields.{three_of, two_of};
+ghost use Rattle.daytext.specs.Text.{fields_of};
+ghost use Rattle.journal.specs.Entries.{FirstFieldIs, line_entry, numbers_of};
 ghost use Rattle.std.specs.Prelude.{◌≡◌};
 
 use daytext::{plain, split};
@@ -32,109 +32,50 @@ pub enum Entry {
     },
 }
 
-// Exactly two numbers.
-fn two(text: &[u8]) -> Option<(u64, u64)>
-    ensures { result ≡ two_of (parted 44 text.now) }
+// The first field, and what follows its comma if it has one.
+fn first_field(text: &[u8]) -> (&[u8], Option<&[u8]>)
+    ensures { FirstFieldIs text.now result }
 {
-    let Some((first, rest)) = split(text, b',') else {
-        return None;
-    };
-    if let Some(_) = split(rest, b',') {
-        return None;
-    }
-    let Some(a) = plain(first) else {
-        return None;
-    };
-    let Some(b) = plain(rest) else {
-        return None;
-    };
-    Some((a, b))
+    split(text, b',').map_or((text, None), |(field, rest)| (field, Some(rest)))
 }
 
-// Exactly three numbers.
-fn three(text: &[u8]) -> Option<(u64, u64, u64)>
-    ensures { result ≡ three_of (parted 44 text.now) }
+// Exactly `N` numbers, with a comma between each two.
+fn numbers<const N: usize>(text: &[u8]) -> Option<[u64; N]>
+    ensures { result ≡ numbers_of N (fields_of text.now) }
 {
-    let Some((first, rest)) = split(text, b',') else {
-        return None;
-    };
-    let Some((second, third)) = split(rest, b',') else {
-        return None;
-    };
-    if let Some(_) = split(third, b',') {
-        return None;
+    let mut numbers = [0; N];
+    let mut rest = Some(text);
+    for number in &mut numbers {
+        let (field, others) = first_field(rest?);
+        *number = plain(field)?;
+        rest = others;
     }
-    let Some(a) = plain(first) else {
-        return None;
-    };
-    let Some(b) = plain(second) else {
-        return None;
-    };
-    let Some(c) = plain(third) else {
-        return None;
-    };
-    Some((a, b, c))
-}
-
-fn admission(text: &[u8]) -> Option<Entry> {
-    let Some((first, rest)) = split(text, b',') else {
-        return None;
-    };
-    let Some((second, rest)) = split(rest, b',') else {
-        return None;
-    };
-    let Some(member) = plain(first) else {
-        return None;
-    };
-    let Some(segment) = plain(second) else {
-        return None;
-    };
-    let Some((class, minimum, paid)) = three(rest) else {
-        return None;
-    };
-    Some(Entry::Admit {
-        member,
-        segment,
-        class,
-        minimum,
-        paid,
-    })
-}
-
-fn payment(text: &[u8]) -> Option<Entry> {
-    let Some((member, segment, amount)) = three(text) else {
-        return None;
-    };
-    Some(Entry::Pay {
-        member,
-        segment,
-        amount,
-    })
-}
-
-fn withdrawal(text: &[u8]) -> Option<Entry> {
-    let Some((member, segment, amount)) = three(text) else {
-        return None;
-    };
-    Some(Entry::Withdraw {
-        member,
-        segment,
-        amount,
-    })
-}
-
-fn departure(text: &[u8]) -> Option<Entry> {
-    let Some((member, segment)) = two(text) else {
-        return None;
-    };
-    Some(Entry::Depart { member, segment })
+    rest.is_none().then_some(numbers)
 }
 
 /// The entry that a line makes, without its byte 10; `None` where it makes none.
-pub fn entry_of(line: &[u8]) -> Option<Entry> {
+pub fn entry_of(line: &[u8]) -> Option<Entry>
+    ensures { result ≡ line_entry line.now }
+{
     match line {
-        [b'a', b'd', b'm', b'i', b't', b'=', rest @ ..] => admission(rest),
-        [b'p', b'a', b'y', b'=', rest @ ..] => payment(rest),
+        [b'a', b'd', b'm', b'i', b't', b'=', rest @ ..] => {
+            let [member, segment, class, minimum, paid] = numbers::<5>(rest)?;
+            Some(Entry::Admit {
+                member,
+                segment,
+                class,
+                minimum,
+                paid,
+            })
+        }
+        [b'p', b'a', b'y', b'=', rest @ ..] => {
+            let [member, segment, amount] = numbers::<3>(rest)?;
+            Some(Entry::Pay {
+                member,
+                segment,
+                amount,
+            })
+        }
         [
             b'w',
             b'i',
@@ -146,8 +87,18 @@ pub fn entry_of(line: &[u8]) -> Option<Entry> {
             b'w',
             b'=',
             rest @ ..,
-        ] => withdrawal(rest),
-        [b'd', b'e', b'p', b'a', b'r', b't', b'=', rest @ ..] => departure(rest),
+        ] => {
+            let [member, segment, amount] = numbers::<3>(rest)?;
+            Some(Entry::Withdraw {
+                member,
+                segment,
+                amount,
+            })
+        }
+        [b'd', b'e', b'p', b'a', b'r', b't', b'=', rest @ ..] => {
+            let [member, segment] = numbers::<2>(rest)?;
+            Some(Entry::Depart { member, segment })
+        }
         _ => None,
     }
 }

@@ -1,11 +1,12 @@
 -- The proportional split: its laws, over any weights, and the turns of its loops. Assumes nothing.
-use Rattle.std.proofs.Common.{◌≡◌, ℕ, zero, suc, ◌+◌, ◌-◌, ◌*◌, ◌<◌, ◌≤◌, List, map, length, get_or, sym, ap, ◌∙◌, subst, mul-le-mul_right, mul_comm, add-mul, mul-le-mul_left, mul-add, div-mul-le_self, arith}
+use Rattle.std.proofs.Common.{◌≡◌, ℕ, zero, suc, ◌+◌, ◌-◌, ◌*◌, ◌<◌, ◌≤◌, List, map, length, get_or, take, sum, sum_by, add-one, sym, ap, ◌∙◌, subst, mul-le-mul_right, mul_comm, add-mul, mul-le-mul_left, mul-add, div-mul-le_self, arith}
 use native.Mathlib.Nat.{div-zero, lt-div-mul-add}
 use Rattle.std.proofs.lemmas.Nat.{le-div, div_below}
-use Rattle.std.proofs.lemmas.List.{get_or-map, length-map}
+use Rattle.std.proofs.lemmas.List.{length-map, take_all, take-map}
+use Rattle.std.proofs.lemmas.List.Sums.{sum-map, sum_by_more}
 use Rattle.terms.specs.Sums.{sum_to}
 use Rattle.share.specs.Split.{SplitInProportion, cut, part_at, part_by, weight_in}
-use Rattle.terms.proofs.Adding.{sum_to_more, sum_to_mono, sum_to_none, sum_to_suc}
+use Rattle.terms.proofs.Adding.{sum_to_more, sum_to_none, sum_to_suc}
 
 -- the cut of a larger weight is no smaller
 pub cut_mono : (T W x y : ℕ) → x ≤ y → cut T W x ≤ cut T W y
@@ -97,23 +98,23 @@ in_proportion T n w l = record {
   idle = λ k e. part_idle T n w k e;
 }
 
--- the weight of an item
-pub weight_is : {X : Type 0} (f : X → ℕ) (xs : List X) (i : ℕ) (x : X) → i < length xs → x ≡ get_or xs i x → f x ≡ weight_in (map f xs) i
-weight_is f xs i x l e = ap f e ∙ sym (get_or-map f xs i x 0 l)
+-- the sum of the first weights of a list, and of all
+sum_taken : (ws : List ℕ) (k : ℕ) → k ≤ length ws → sum_to k (weight_in ws) ≡ sum (take k ws)
+sum_taken ws zero l = sum_to_none (weight_in ws)
+sum_taken ws (suc k) l =
+    let more : sum (take (k + 1) ws) ≡ sum (take k ws) + get_or ws k 0 = sum_by_more (λ w. w) ws k 0 (omega arith) in
+    omega (arith, sum_to_suc k (weight_in ws), sum_taken ws k (omega arith), more, ap (λ n. sum (take n ws)) (add-one k))
 
--- a turn of a loop that adds the weights up
-module _ {X : Type 0} (f : X → ℕ) (xs : List X) (i : ℕ) (x : X) (r s : ℕ) (l : i < length xs) (is : x ≡ get_or xs i x) (er : r ≡ f x) (es : s ≡ sum_to i (weight_in (map f xs))) where
-  pub sum_turn : s + r ≡ sum_to (i + 1) (weight_in (map f xs))
-  sum_turn = let e : r ≡ weight_in (map f xs) i = er ∙ weight_is f xs i x l is in omega (arith, sum_to_more i (weight_in (map f xs)))
+pub sum_listed : (ws : List ℕ) → sum_to (length ws) (weight_in ws) ≡ sum ws
+sum_listed ws = sum_taken ws (length ws) (omega arith) ∙ ap sum (take_all (length ws) ws (omega arith))
 
-  pub sum_within : s + r ≤ sum_to (length xs) (weight_in (map f xs))
-  sum_within = omega (arith, sum_turn, sum_to_mono (i + 1) (length xs) (weight_in (map f xs)) (omega arith))
+module _ {X : Type 0} (f : X → ℕ) (xs : List X) where
+  sum_front : (k : ℕ) → k ≤ length xs → sum_to k (weight_in (map f xs)) ≡ sum_by f (take k xs)
+  sum_front k l = sum_taken (map f xs) k (omega (arith, length-map xs f)) ∙ ap sum (take-map f k xs) ∙ sum-map f (take k xs)
 
-  -- the part that the turn writes
-  pub part_turn : (T W up before : ℕ) → W ≡ sum_to (length xs) (weight_in (map f xs)) → up ≡ cut T W (s + r) → before ≡ cut T W s → up - before ≡ part_at T (map f xs) i
-  part_turn T W up before eW eu eb =
-      let w = weight_in (map f xs) in
-      let whole : W ≡ sum_to (length (map f xs)) w = eW ∙ ap (λ (n : ℕ). sum_to n w) (sym (length-map xs f)) in
-      let a : up ≡ cut T (sum_to (length (map f xs)) w) (sum_to (i + 1) w) = eu ∙ ap (λ (y : ℕ). cut T y (s + r)) whole ∙ ap (λ (y : ℕ). cut T (sum_to (length (map f xs)) w) y) sum_turn in
-      let b : before ≡ cut T (sum_to (length (map f xs)) w) (sum_to i w) = eb ∙ ap (λ (y : ℕ). cut T y s) whole ∙ ap (λ (y : ℕ). cut T (sum_to (length (map f xs)) w) y) es in
-      ap (λ (y : ℕ). y - before) a ∙ ap (λ (y : ℕ). cut T (sum_to (length (map f xs)) w) (sum_to (i + 1) w) - y) b
+  -- a part, by the sums that the loop has
+  pub part_is : (T i : ℕ) → i < length xs → part_at T (map f xs) i ≡ cut T (sum_by f xs) (sum_by f (take (i + 1) xs)) - cut T (sum_by f xs) (sum_by f (take i xs))
+  part_is T i l =
+      ap (λ W. cut T W (sum_to (i + 1) (weight_in (map f xs))) - cut T W (sum_to i (weight_in (map f xs)))) (sum_listed (map f xs) ∙ sum-map f xs)
+      ∙ ap (λ s. cut T (sum_by f xs) s - cut T (sum_by f xs) (sum_to i (weight_in (map f xs)))) (sum_front (i + 1) (omega arith))
+      ∙ ap (λ s. cut T (sum_by f xs) (sum_by f (take (i + 1) xs)) - cut T (sum_by f xs) s) (sum_front i (omega arith))

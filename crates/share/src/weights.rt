@@ -9,3 +9,12 @@ pub trait Weighted {
     fn weight(&self) -> u64
         ensures { result ≡ weighs self.now };
 }
+
+/// A number is its own weight.
+impl Weighted for u64 {
+    ghost weighs = { λ x. x };
+
+    fn weight(&self) -> u64 {
+        *self
+    }
+}

@@ -1,44 +1,9 @@
 -- What the two rules mark is the first largest, and among the rest the first largest. Assumes nothing.
-use Rattle.std.proofs.Common.{◌≡◌, ℕ, suc, ◌+◌, ◌<◌, ◌≤◌, Bool, true, cond, not, ◌&&◌, ◌||◌, eqb, ltb, List, [], ◌∷◌, length, get_or, sym, refl, ap, ◌∙◌, subst, inl, inr, ⊎_elim, add-zero, zero-add, arith}
-use Rattle.std.proofs.lemmas.Bool.{and_cases, and_from, and_parts, cases_eq, cases_lt, cond_both, eq-eqb, eqb-false, eqb-true, lt-ltb, ltb-false, ltb-true, not-false, not-true, or_cases, or_left, or_right}
+use Rattle.std.proofs.Common.{◌≡◌, ℕ, ◌<◌, ◌≤◌, Bool, true, cond, ◌&&◌, ◌||◌, eqb, List, [], ◌∷◌, length, get_or, sym, ap, subst, inl, inr, ⊎_elim, arith}
+use Rattle.std.proofs.lemmas.Bool.{and_from, and_parts, cases_eq, cases_lt, cond_both, eq-eqb, eqb-false, eqb-true, lt-ltb, ltb-true, or_cases, or_left, or_right}
 use Rattle.sizing.specs.Places.{first, is_in_list, pick, second}
 use Rattle.sizing.specs.Firsts.{Any, FirstLargestStands, FirstLargest, Rest}
-use Rattle.sizing.specs.Picks.{first_within}
-
--- a place that is not left out
-abbrev But : ℕ → ℕ → Type 0
-But skip k = k ≡ skip → ⊥
-
--- going along a list: b is the best of the places below i
-module _ (means : List ℕ) (skip : ℕ) where
-  at : ℕ → ℕ
-  at k = get_or means k 0
-
-  pick_first : (b v i : ℕ) (xs : List ℕ) → at b ≡ v → ((k : ℕ) → k < length xs → at (i + k) ≡ get_or xs k 0) → i + length xs ≡ length means → b < length means → But skip b → ((k : ℕ) → k < i → But skip k → at k ≤ at b) → ((k : ℕ) → k < b → But skip k → at k < at b) → FirstLargest means (But skip) (pick skip b v i xs)
-  unfolding at
-  pick_first b v i [] fb fx len w o le lt = record { within = w; one_of_them = o; largest = λ k l ne. le k (omega arith) ne; before = lt }
-  pick_first b v i (x ∷ xs) fb fx len w o le lt =
-      let fi : at i ≡ x = ap at (sym (add-zero i)) ∙ fx 0 (omega arith) in
-      let next : (k : ℕ) → k < length xs → at (i + 1 + k) ≡ get_or xs k 0 = λ k h. ap at (omega arith) ∙ fx (suc k) (omega arith) in
-      cond_both (not (eqb i skip) && ltb v x) (pick skip i x (i + 1) xs) (pick skip b v (i + 1) xs) (FirstLargest means (But skip))
-      (λ t.
-      let parts = and_parts (not (eqb i skip)) (ltb v x) t in
-      let more : v < x = ltb-true v x parts.1 in
-      pick_first i x (i + 1) xs fi next (omega arith) (omega arith) (eqb-false i skip (not-true (eqb i skip) parts.0))
-      (λ k l ne. ⊎_elim (λ (e : k ≡ i). omega (arith, ap at e)) (λ d. omega (arith, le k (omega arith) ne)) (cases_eq k i))
-      (λ k l ne. omega (arith, le k l ne)))
-      (λ t.
-      pick_first b v (i + 1) xs fb next (omega arith) w o
-      (λ k l ne. ⊎_elim
-      (λ (e : k ≡ i). ⊎_elim (λ u. absurd (ne (e ∙ eqb-true i skip (not-false (eqb i skip) u)))) (λ u. omega (arith, ltb-false v x u, ap at e)) (and_cases (not (eqb i skip)) (ltb v x) t))
-      (λ d. le k (omega arith) ne)
-      (cases_eq k i))
-      lt)
-
-  -- from a start that is not left out, with nothing before it but what is left out
-  from_start : (b : ℕ) → b < length means → But skip b → ((k : ℕ) → k < b → But skip k → ⊥) → FirstLargest means (But skip) (pick skip b (get_or means b 0) 0 means)
-  unfolding at
-  from_start b w o none = pick_first b (get_or means b 0) 0 means refl (λ k l. ap (λ (j : ℕ). get_or means j 0) (zero-add k)) (omega arith) w o (λ k l ne. omega arith) (λ k l ne. absurd (none k l ne))
+use Rattle.sizing.specs.Picks.{But, first_is, from_start}
 
 -- two first largest of the same places are one
 same_place : (means : List ℕ) (P Q : ℕ → Type 0) (a b : ℕ) → ((k : ℕ) → k < length means → P k → Q k) → ((k : ℕ) → k < length means → Q k → P k) → FirstLargest means P a → FirstLargest means Q b → a ≡ b
@@ -54,17 +19,12 @@ same_place means P Q a b there back x y =
     (cases_eq a b)
 
 module _ (means : List ℕ) where
-  first_is : 0 < length means → FirstLargest means Any (first means)
-  first_is some =
-      let r = from_start means (length means) 0 some (λ e. omega arith) (λ k l ne. omega arith) in
-      record { within = r.within; one_of_them = tt; largest = λ k l _. r.largest k l (λ e. omega arith); before = λ k l _. r.before k l (λ e. omega (arith, r.within)) }
-
   first_only : (k : ℕ) → FirstLargest means Any k → k ≡ first means
-  first_only k x = same_place means Any Any k (first means) (λ j l p. p) (λ j l p. p) x (first_is (omega (arith, x.within)))
+  first_only k x = same_place means Any Any k (first means) (λ j l p. p) (λ j l p. p) x (first_is means (omega (arith, x.within)))
 
   -- the rest are the places other than the first largest
   rest_but : 0 < length means → (k : ℕ) → Rest means k → But (first means) k
-  rest_but some k r e = r (subst (FirstLargest means Any) (sym e) (first_is some))
+  rest_but some k r e = r (subst (FirstLargest means Any) (sym e) (first_is means some))
 
   but_rest : (k : ℕ) → But (first means) k → Rest means k
   but_rest k ne x = ne (first_only k x)
@@ -85,14 +45,14 @@ module _ (means : List ℕ) where
   second_only k x =
       let some : 0 < length means = omega (arith, x.within) in
       let ne = rest_but some k x.one_of_them in
-      let more : 1 < length means = omega (arith, x.within, first_within means some) in
+      let more : 1 < length means = omega (arith, x.within, (first_is means some).within) in
       same_place means (Rest means) (But (first means)) k (second means) (λ j l p. rest_but some j p) (λ j l p. but_rest j p) x (second_but more)
 
 -- a list of one has no second place
 second_alone : (means : List ℕ) → length means ≡ 1 → second means ≡ 1
 second_alone [] e = absurd (omega arith)
 second_alone (x ∷ []) e =
-    let zero_first : first (x ∷ []) ≡ 0 = omega (arith, first_within (x ∷ []) (omega arith)) in
+    let zero_first : first (x ∷ []) ≡ 0 = omega (arith, (first_is (x ∷ []) (omega arith)).within) in
     ap (λ (f : ℕ). pick f (cond (eqb f 0) 1 0) (get_or (x ∷ []) (cond (eqb f 0) 1 0) 0) 0 (x ∷ [])) zero_first
 second_alone (x ∷ y ∷ xs) e = absurd (omega arith)
 

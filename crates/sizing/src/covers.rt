@@ -1,6 +1,6 @@
 // The rules that cover the largest mean, or the two largest.
 
-ghost use Rattle.std.specs.Prelude.{◌≡◌, ◌<◌};
+ghost use Rattle.std.specs.Prelude.{◌≡◌};
 ghost use Rattle.sizing.specs.Meant.{means_of};
 ghost use Rattle.sizing.specs.Places.{cover_one, cover_two, pick_from};
 ghost use Rattle.sizing.specs.Picks.{lawful_one, lawful_two};
@@ -10,15 +10,13 @@ use crate::rule::SizingRule;
 
 // The first place with the largest mean among `start` and the places other than `skip`.
 fn largest(means: &Means, skip: usize, start: usize) -> usize
-    requires { start < means.now.count }
     ensures { result ≡ pick_from skip start (means_of means.now) }
 {
     let mut best = start;
     let mut most = means.at(start);
-    for i in 0..means.count() {
-        let mean = means.at(i);
-        if i != skip && most < mean {
-            best = i;
+    for (place, &mean) in means.as_slice().iter().enumerate() {
+        if place != skip && most < mean {
+            best = place;
             most = mean;
         }
     }
@@ -27,7 +25,7 @@ fn largest(means: &Means, skip: usize, start: usize) -> usize
 
 /// Marks the first largest mean.
 #[derive(Clone, Copy)]
-pub struct CoverOne {}
+pub struct CoverOne;
 
 impl SizingRule for CoverOne {
     ghost marking = { λ _. cover_one };
@@ -41,7 +39,7 @@ impl SizingRule for CoverOne {
 
 /// Marks the first largest mean and, of the others, the first largest among them.
 #[derive(Clone, Copy)]
-pub struct CoverTwo {}
+pub struct CoverTwo;
 
 impl SizingRule for CoverTwo {
     ghost marking = { λ _. cover_two };
@@ -49,14 +47,8 @@ impl SizingRule for CoverTwo {
     ghost lawful = { λ rule. lawful_two };
 
     fn marked(&self, means: &Means, place: usize) -> bool {
-        if place >= means.count() {
-            return false;
-        }
         let first = largest(means, means.count(), 0);
-        if place == first {
-            return true;
-        }
-        let start = if first == 0 { 1 } else { 0 };
-        place == largest(means, first, start)
+        let second = largest(means, first, usize::from(first == 0));
+        place < means.count() && (place == first || place == second)
     }
 }

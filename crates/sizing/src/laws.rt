@@ -3,8 +3,6 @@
 ghost use Rattle.sizing.specs.Firsts.{FirstLargestStands};
 
 /// The theorem that cover-one marks exactly the first largest mean, and cover-two also exactly the first largest among the rest.
-pub fn first_largest_stands() -> u8
+pub fn first_largest_stands()
     ensures { FirstLargestStands }
-{
-    0
-}
+{}

@@ -19,13 +19,14 @@ pub trait SizingRule {
         ensures { result ≡ marking self.now (means_of means.now) place };
 
     /// The size of the fund: the sum of the marked means.
+    #[tactic(auto, using(terms::proofs::Adding::sum_to_none, terms::proofs::Adding::sum_to_more))]
     fn size(&self, means: &Means) -> u64
         ensures { result ≡ size_of (marking self.now (means_of means.now)) (means_of means.now) }
     {
         let mut sum = 0;
-        for i in 0..means.count() {
-            if self.marked(means, i) {
-                sum += means.at(i);
+        for (place, &mean) in means.as_slice().iter().enumerate() {
+            if self.marked(means, place) {
+                sum += mean;
             }
         }
         sum

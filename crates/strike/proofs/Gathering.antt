@@ -1,35 +1,37 @@
 -- Columns of the members that share, one member more. Assumes nothing.
-use Rattle.std.proofs.Common.{◌≡◌, ℕ, ◌+◌, ◌<◌, ◌≤◌, Bool, true, false, ◌≢◌, List, [], ◌∷◌, ◌++◌, map, length, get_or, take, set, sym, ap, ◌∙◌, subst, ⊎_elim, arith, get_or-set_other, get_or-set_same}
-use Rattle.std.proofs.lemmas.List.{map_push, take_more_set}
+use Rattle.std.proofs.Common.{◌≡◌, ℕ, ◌+◌, ◌<◌, ◌≤◌, Bool, true, false, ◌≢◌, List, [], ◌∷◌, ◌++◌, map, length, get_or, sym, ap, ◌∙◌, subst, ⊎_elim, arith}
+use Rattle.std.proofs.lemmas.List.{get_or_append_left, get_or_push, length-map, length_push, map_push}
 use Rattle.std.proofs.lemmas.Bool.{cases_eq}
 use Rattle.strike.specs.Members.{sharers_to}
-use Rattle.strike.proofs.Listing.{sharers_no, sharers_none, sharers_yes}
+use Rattle.strike.proofs.Listing.{count_few, sharers_no, sharers_none, sharers_yes}
 
 module _ (p : ℕ → Bool) (f : ℕ → ℕ) where
-  pub column_none : (xs : List ℕ) → take 0 xs ≡ map f (sharers_to 0 p)
-  column_none xs = ap (map f) (sym (sharers_none p))
+  pub column_none : (n : ℕ) → n ≡ 0 → [] ≡ map f (sharers_to n p)
+  column_none n e = ap (map f) (sym (ap (λ k. sharers_to k p) e ∙ sharers_none p))
 
-  -- the number of the next member is written behind those before it
-  pub column_yes : (k n n' v : ℕ) (xs xs' : List ℕ) → p (k + 1) ≡ true → n < length xs → take n xs ≡ map f (sharers_to k p) → n' ≡ n + 1 → xs' ≡ set xs n v → v ≡ f (k + 1) → take n' xs' ≡ map f (sharers_to (k + 1) p)
-  column_yes k n n' v xs xs' h lt e en ex ev =
-      ap (λ (j : ℕ). take j xs') en
-      ∙ ap (λ (l : List ℕ). take (n + 1) l) (ex ∙ ap (set xs n) ev)
-      ∙ take_more_set xs n (f (k + 1)) lt
-      ∙ ap (λ (l : List ℕ). l ++ (f (k + 1) ∷ [])) e
+  -- the number of member m, the next, is written behind those before it
+  pub column_yes : (k n m v : ℕ) (xs : List ℕ) → p m ≡ true → m ≡ k + 1 → n ≡ k + 1 → xs ≡ map f (sharers_to k p) → v ≡ f m → xs ++ v ∷ [] ≡ map f (sharers_to n p)
+  column_yes k n m v xs h em en e ev =
+      ap (λ (l : List ℕ). l ++ v ∷ []) e
+      ∙ ap (λ (w : ℕ). map f (sharers_to k p) ++ w ∷ []) (ev ∙ ap f em)
       ∙ sym (map_push f (sharers_to k p) (k + 1))
-      ∙ ap (map f) (sym (sharers_yes p k h))
+      ∙ ap (map f) (sym (sharers_yes p k (subst (λ (j : ℕ). p j ≡ true) em h)))
+      ∙ ap (λ (j : ℕ). map f (sharers_to j p)) (sym en)
 
-  pub column_no : (k n n' : ℕ) (xs xs' : List ℕ) → p (k + 1) ≡ false → take n xs ≡ map f (sharers_to k p) → n' ≡ n → xs' ≡ xs → take n' xs' ≡ map f (sharers_to (k + 1) p)
-  column_no k n n' xs xs' h e en ex = ap (λ (j : ℕ). take j xs') en ∙ ap (λ (l : List ℕ). take n l) ex ∙ e ∙ ap (map f) (sym (sharers_no p k h))
+  pub column_no : (k n m : ℕ) (xs : List ℕ) → p m ≡ false → m ≡ k + 1 → n ≡ k + 1 → xs ≡ map f (sharers_to k p) → xs ≡ map f (sharers_to n p)
+  column_no k n m xs h em en e = e ∙ ap (map f) (sym (sharers_no p k (subst (λ (j : ℕ). p j ≡ false) em h))) ∙ ap (λ (j : ℕ). map f (sharers_to j p)) (sym en)
+
+  pub column_few : (n : ℕ) (xs : List ℕ) → xs ≡ map f (sharers_to n p) → length xs ≤ n
+  column_few n xs e = omega (arith, ap length e, length-map (sharers_to n p) f, count_few p n)
+
+pub small_none : (b : ℕ) (xs : List ℕ) → xs ≡ [] → (k : ℕ) → k < length xs → get_or xs k 0 ≤ b
+small_none b xs e k l = omega (arith, ap length e)
 
 -- one number more that is small
-pub small_more : (b : ℕ) (xs xs' : List ℕ) (n n' v : ℕ) → n < length xs → ((k : ℕ) → k < n → get_or xs k 0 ≤ b) → n' ≡ n + 1 → xs' ≡ set xs n v → v ≤ b → (k : ℕ) → k < n' → get_or xs' k 0 ≤ b
-small_more b xs xs' n n' v lt h en ex le k l =
-    subst (λ (ys : List ℕ). get_or ys k 0 ≤ b) (sym ex)
-    (⊎_elim
-    (λ (e : k ≡ n). subst (λ (j : ℕ). get_or (set xs n v) j 0 ≤ b) (sym e) (rw get_or-set_same le))
-    (λ (ne : k ≢ n). rw get_or-set_other (h k (omega arith)))
-    (cases_eq k n))
-
-pub small_kept : (b : ℕ) (xs xs' : List ℕ) (n n' : ℕ) → ((k : ℕ) → k < n → get_or xs k 0 ≤ b) → n' ≡ n → xs' ≡ xs → (k : ℕ) → k < n' → get_or xs' k 0 ≤ b
-small_kept b xs xs' n n' h en ex k l = subst (λ (ys : List ℕ). get_or ys k 0 ≤ b) (sym ex) (h k (omega arith))
+pub small_more : (b : ℕ) (xs ys : List ℕ) (v : ℕ) → ((k : ℕ) → k < length xs → get_or xs k 0 ≤ b) → v ≤ b → ys ≡ xs ++ v ∷ [] → (k : ℕ) → k < length ys → get_or ys k 0 ≤ b
+small_more b xs ys v h le ey k l = ⊎_elim
+    (λ (e : k ≡ length xs). omega (arith, ap (λ (zs : List ℕ). get_or zs k 0) ey, get_or_push xs v 0 k (sym e)))
+    (λ (ne : k ≢ length xs).
+    let lt : k < length xs = omega (arith, ap length ey, length_push xs v) in
+    omega (arith, ap (λ (zs : List ℕ). get_or zs k 0) ey, get_or_append_left xs (v ∷ []) 0 k lt, h k lt))
+    (cases_eq k (length xs))

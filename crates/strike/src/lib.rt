@@ -1,4 +1,5 @@
 // The strike of a segment, for any sizing rule.
+// The tables come to each call as two slices of their owner's, and member and segment as plain numbers, each to be refused by itself.
 #![tactic(auto)]
 
 pub mod rows;

@@ -1,63 +1,82 @@
 // The seats that share in a segment.
 
-ghost use Rattle.std.specs.Prelude.{◌≡◌, ℕ, ◌<◌, ◌≤◌, length, take, Decides, slice_index, slice_index_or};
-ghost use Rattle.strike.specs.Members.{means_of, minimums_of, sharers};
+ghost use Rattle.std.specs.Prelude.{◌≡◌, ℕ, ◌<◌, ◌≤◌, true, false, length, Decides, MatchBool, slice_index};
+ghost use Rattle.strike.specs.Members.{means_of, minimums_of};
 ghost use Rattle.strike.specs.Strike.{EachSharing, Figured, Paid, members_in};
-ghost use Rattle.tables.specs.Book.{IsSegment, Sound, no_seat};
-ghost use Rattle.terms.specs.Limits.{all_members, all_seats, figure_limit, minimum_limit};
+ghost use Rattle.tables.specs.Book.{IsMember, Ranged, seat_at};
+ghost use Rattle.terms.specs.Limits.{figure_limit, minimum_limit};
 
-use tables::Seat;
-use tables::within::{place_of, shares_in};
-use terms::limits::LAST_MEMBER;
+use arrayvec::ArrayVec;
+use tables::{Seat, Tables};
+use terms::limits::ALL_MEMBERS;
+use terms::{Member, Segment};
 
-// Means and minimums of the members that share, by place; it answers how many there are.
-pub(crate) fn gather(seats: &[Seat], segment: u64, means: &mut [u64], minimums: &mut [u64]) -> usize
-    requires long { length seats.now ≡ all_seats }
-    requires segment { IsSegment segment }
-    requires sound { (k : ℕ) → k < length seats.now → Sound (slice_index_or seats.now k no_seat) }
-    requires room { (length means.old ≡ all_members) × (length minimums.old ≡ all_members) }
-    ensures count { result ≡ length (sharers (members_in seats.now segment)) }
-    ensures few { result ≤ all_members }
-    ensures means { take result means.new ≡ means_of (members_in seats.now segment) }
-    ensures minimums { take result minimums.new ≡ minimums_of (members_in seats.now segment) }
-    ensures small { (((k : ℕ) → k < result → slice_index means.new k ≤ figure_limit)) × (((k : ℕ) → k < result → slice_index minimums.new k ≤ minimum_limit)) }
-{
-    let mut n = 0;
-    for m in 0..LAST_MEMBER {
-        let seat = seats[place_of(m + 1, segment)];
-        if shares_in(seat.class) {
-            means[n] = seat.mean();
-            minimums[n] = seat.minimum;
-            n += 1;
-        }
-    }
-    n
+// The means and the minimums of the members that share, by place.
+#[derive(Drop)]
+pub(crate) struct Gathered {
+    pub(crate) means: ArrayVec<u64, ALL_MEMBERS>,
+    pub(crate) minimums: ArrayVec<u64, ALL_MEMBERS>,
 }
 
-// Whether every seat that shares holds what is asked of it.
-pub(crate) fn all_paid(seats: &[Seat], segment: u64) -> bool
-    requires { (length seats.now ≡ all_seats) × (IsSegment segment) }
-    ensures { Decides result (EachSharing seats.now segment Paid) }
-{
-    for m in 1..LAST_MEMBER + 1 {
-        let seat = seats[place_of(m, segment)];
-        if shares_in(seat.class) && seat.held < seat.asked {
-            return false;
-        }
-    }
-    true
+// A segment of a book, as it is read.
+#[derive(Clone, Copy)]
+pub(crate) struct StruckSegment<'a> {
+    pub(crate) tables: Tables<'a>,
+    pub(crate) segment: Segment,
 }
 
-// Whether every seat that shares has a figure in its mean.
-pub(crate) fn all_figured(seats: &[Seat], segment: u64) -> bool
-    requires { (length seats.now ≡ all_seats) × (IsSegment segment) }
-    ensures { Decides result (EachSharing seats.now segment Figured) }
-{
-    for m in 1..LAST_MEMBER + 1 {
-        let seat = seats[place_of(m, segment)];
-        if shares_in(seat.class) && seat.days == 0 {
-            return false;
-        }
+impl StruckSegment<'_> {
+    pub(crate) fn seat(&self, member: Member) -> Seat
+        ensures is { result ≡ seat_at self.now.tables.seats.now member.number self.now.segment.number }
+        ensures ranged { Ranged result }
+        ensures minimum { result.minimum ≤ minimum_limit }
+    {
+        self.tables.seat(member, self.segment)
     }
-    true
+
+    pub(crate) fn gather(&self) -> Gathered
+        ensures means { result.means.items ≡ means_of (members_in self.now.tables.seats.now self.now.segment.number) }
+        ensures minimums { result.minimums.items ≡ minimums_of (members_in self.now.tables.seats.now self.now.segment.number) }
+        ensures small { (k : ℕ) → k < length result.means.items → slice_index result.means.items k ≤ figure_limit }
+        ensures least { (k : ℕ) → k < length result.minimums.items → slice_index result.minimums.items k ≤ minimum_limit }
+    {
+        let mut means = ArrayVec::new();
+        let mut minimums = ArrayVec::new();
+        for member in Member::all() {
+            let seat = self.seat(member);
+            if seat.shares() {
+                means.push(seat.mean());
+                minimums.push(seat.minimum);
+            }
+        }
+        Gathered { means, minimums }
+    }
+
+    // Whether every seat that shares passes the test.
+    fn each_sharing<F: Fn(Seat) -> bool>(&self, test: F) -> bool
+        requires { F.IsAlwaysCallable test }
+        ensures { MatchBool result (EachSharing self.now.tables.seats.now self.now.segment.number (λ x. F.post test x true)) ((m : ℕ) × (IsMember m) × ((members_in self.now.tables.seats.now self.now.segment.number).shares m ≡ true) × (F.post test (seat_at self.now.tables.seats.now m self.now.segment.number) false)) }
+    {
+        for member in Member::all() {
+            let seat = self.seat(member);
+            if seat.shares() && !test(seat) {
+                return false;
+            }
+        }
+        true
+    }
+
+    // Whether every seat that shares holds what is asked of it.
+    pub(crate) fn all_paid(&self) -> bool
+        ensures { Decides result (EachSharing self.now.tables.seats.now self.now.segment.number Paid) }
+    {
+        self.each_sharing(|seat| seat.held >= seat.asked)
+    }
+
+    // Whether every seat that shares has a figure in its mean.
+    pub(crate) fn all_figured(&self) -> bool
+        ensures { Decides result (EachSharing self.now.tables.seats.now self.now.segment.number Figured) }
+    {
+        self.each_sharing(|seat| seat.days > 0)
+    }
 }

@@ -2,6 +2,7 @@
 
 ghost use Rattle.std.specs.Prelude.{◌≡◌, ℕ, ◌+◌, ◌<◌, ◌≤◌, length, IfOk, if◌then◌else◌, OnOk, slice_index};
 ghost use Rattle.sizing.specs.Meant.{means_of as means_list};
+ghost use Rattle.asks.specs.Steps.{ask_at};
 ghost use Rattle.strike.specs.Members.{place_of};
 ghost use Rattle.strike.specs.Promises.{AsksBounded};
 ghost use Rattle.strike.specs.Rows.{row_at, unasked};
@@ -10,42 +11,32 @@ ghost use Rattle.tables.specs.Book.{Book, IsMember, IsSegment};
 ghost use Rattle.terms.specs.Limits.{all_members, all_seats};
 
 use crate::rows::Row;
-use crate::sharing::{all_figured, all_paid, gather};
-use asks::within::ask_all;
+use crate::sharing::{Gathered, StruckSegment};
+use asks::within::{Fund, Sharers};
 use sizing::SizingRule;
 use sizing::means::Means;
-use tables::within::{is_segment, place_of, shares_in};
-use tables::{Pledges, Seat, is_book};
-use terms::Refusal;
-use terms::limits::{ALL_MEMBERS, FUND_LIMIT, LAST_MEMBER};
+use tables::{Pledges, Seat, Tables, place_of};
+use terms::limits::{ALL_MEMBERS, FUND_LIMIT};
+use terms::{Member, Refusal, Segment};
 
-// Tells each member its ask and its mark, which are given by place.
-fn tell<R: SizingRule>(
-    seats: &[Seat],
-    segment: u64,
-    rule: &R,
-    means: &Means,
-    asks: &[u64],
-    rows: &mut [Row],
-)
-    requires long { (length seats.now ≡ all_seats) × ((length rows.old ≡ all_members) × (length asks.now ≡ all_members)) }
-    requires segment { IsSegment segment }
-    ensures { (m : ℕ) → IsMember m → row_at rows.new m ≡ (if (members_in seats.now segment).shares m then (record { ask = slice_index asks.now (place_of (members_in seats.now segment) m); marked = R.SizingRule.marking rule.now (means_list means.now) (place_of (members_in seats.now segment) m) }) else unasked) }
-{
-    let mut n = 0;
-    for m in 0..LAST_MEMBER {
-        let mut row = Row {
-            ask: 0,
-            marked: false,
-        };
-        if shares_in(seats[place_of(m + 1, segment)].class) {
-            row = Row {
-                ask: asks[n],
-                marked: rule.marked(means, n),
-            };
-            n += 1;
+impl StruckSegment<'_> {
+    // Tells each member its ask and its mark, which are given by place.
+    fn tell<R: SizingRule>(&self, rule: &R, means: &Means, fund: &Fund, rows: &mut [Row])
+        requires { length rows.old ≡ all_members }
+        ensures { (m : ℕ) → IsMember m → row_at rows.new m ≡ (if (members_in self.now.tables.seats.now self.now.segment.number).shares m then (record { ask = ask_at fund.now.quotas.size fund.now.sharers.minimums.now (means_list fund.now.sharers.means) (place_of (members_in self.now.tables.seats.now self.now.segment.number) m); marked = R.SizingRule.marking rule.now (means_list means.now) (place_of (members_in self.now.tables.seats.now self.now.segment.number) m) }) else unasked) }
+    {
+        let mut place = 0;
+        for member in Member::all() {
+            let mut row = Row::default();
+            if self.seat(member).shares() {
+                row = Row {
+                    ask: fund.ask(place),
+                    marked: rule.marked(means, place),
+                };
+                place += 1;
+            }
+            rows[member.index()] = row;
         }
-        rows[m as usize] = row;
     }
 }
 
@@ -53,32 +44,23 @@ fn tell<R: SizingRule>(
 fn settle(seat: Seat, ask: u64) -> Seat
     ensures { result ≡ settled ask seat }
 {
-    let asked = if shares_in(seat.class) {
-        ask
-    } else {
-        seat.asked
-    };
+    let asked = if seat.shares() { ask } else { seat.asked };
     Seat {
-        class: seat.class,
-        minimum: seat.minimum,
-        held: seat.held,
         asked,
         sum: 0,
         days: 0,
-        last_day: seat.last_day,
-        last_figure: seat.last_figure,
+        ..seat
     }
 }
 
 // Settles every seat of the segment by what its member's row asks.
-fn settle_all(seats: &mut [Seat], segment: u64, rows: &[Row])
-    requires long { (length seats.old ≡ all_seats) × (length rows.now ≡ all_members) }
-    requires segment { IsSegment segment }
-    ensures { seats.new ≡ settled_by seats.old segment rows.now }
+fn settle_all(seats: &mut [Seat], segment: Segment, rows: &[Row])
+    requires { (length seats.old ≡ all_seats) × (length rows.now ≡ all_members) }
+    ensures { seats.new ≡ settled_by seats.old segment.number rows.now }
 {
-    for m in 0..LAST_MEMBER {
-        let i = place_of(m + 1, segment);
-        seats[i] = settle(seats[i], rows[m as usize].ask);
+    for member in Member::all() {
+        let place = place_of(member, segment);
+        seats[place] = settle(seats[place], rows[member.index()].ask);
     }
 }
 
@@ -102,34 +84,26 @@ pub fn strike<R: SizingRule>(
     ensures bounded { IfOk result (λ size. AsksBounded (members_in seats.old segment) size rows.new) }
     ensures book { OnOk result (Book seats.new pledges.now) }
 {
-    if !is_book(seats, pledges) {
-        return Err(Refusal::NoBook);
-    }
-    if !is_segment(segment) {
-        return Err(Refusal::Segment);
-    }
+    let tables = Tables::read(seats, pledges)?;
+    let segment = Segment::numbered(segment).ok_or(Refusal::Segment)?;
     if rows.len() != ALL_MEMBERS {
         return Err(Refusal::Lengths);
     }
-    let mut list = [0; ALL_MEMBERS];
-    let mut minimums = [0; ALL_MEMBERS];
-    let n = gather(seats, segment, &mut list, &mut minimums);
-    let Some(means) = Means::of(list, n) else {
-        return Err(Refusal::NoneShares);
-    };
-    if !all_paid(seats, segment) {
+    let struck = StruckSegment { tables, segment };
+    let Gathered { means, minimums } = struck.gather();
+    let means = Means::of(means.as_slice()).ok_or(Refusal::NoneShares)?;
+    if !struck.all_paid() {
         return Err(Refusal::Short);
     }
-    if !all_figured(seats, segment) {
+    if !struck.all_figured() {
         return Err(Refusal::NoFigure);
     }
     let size = rule.size(&means);
     if size > FUND_LIMIT {
         return Err(Refusal::FundSize);
     }
-    let mut asks = [0; ALL_MEMBERS];
-    ask_all(size, &means, &minimums[..n], &mut asks);
-    tell(seats, segment, rule, &means, &asks, rows);
+    let fund = Sharers::of(means, minimums.as_slice()).fund(size);
+    struck.tell(rule, &means, &fund, rows);
     settle_all(seats, segment, rows);
     Ok(size)
 }

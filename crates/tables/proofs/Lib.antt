@@ -1,3 +1,4 @@
+pub mod Holding
 pub mod MemberRows
 pub mod SeatKinds
 pub mod Segments

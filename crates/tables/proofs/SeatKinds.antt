@@ -1,10 +1,10 @@
 -- The kind of a seat by its class. Assumes nothing.
 use Rattle.std.proofs.Common.{◌≡◌, ℕ, ◌≤◌, Bool, true, false, eqb, is_some, Some, None, MatchBool, Option, sym, refl, ap, ◌∙◌, subst, arith}
 use Rattle.std.proofs.lemmas.Bool.{eq-eqb, ne_eqb, true≢false}
-use Rattle.terms.specs.Classes.{class_of, owed}
+use Rattle.terms.specs.Classes.{class_of, owed, owes_by}
 use Rattle.terms.specs.declared.classes.Class.{Class}
 use Rattle.terms.specs.declared.classes.Duty.TheVariants.{FundContribution}
-use Rattle.tables.specs.Book.{Empty, Exempt, Kind, KindBy, Sharing, shares, shares_by}
+use Rattle.tables.specs.Book.{Empty, Exempt, Kind, KindBy, Sharing, shares}
 use Rattle.tables.specs.declared.records.Seat.{Seat}
 
 when_yes : (b : Bool) (P Q : Type 0) → b ≡ true → P → MatchBool b P Q
@@ -43,21 +43,21 @@ empty_back x e h = yes_back (eqb x.class 0) (Empty x) (KindBy (class_of x.class)
 pub kind_sharing : (x : Seat) → shares x.class ≡ true → Sharing x → Kind x
 kind_sharing x e h = taken x (sharing_some x.class e) (by (class_of x.class) e)
   where
-    by : (o : Option Class) → shares_by o ≡ true → KindBy o x
+    by : (o : Option Class) → owes_by o FundContribution ≡ true → KindBy o x
     by None f = absurd (true≢false (sym f))
     by (Some c) f = when_yes (owed c FundContribution) (Sharing x) (Exempt x) f h
 
 pub kind_exempt : (x : Seat) → is_some (class_of x.class) ≡ true → shares x.class ≡ false → Exempt x → Kind x
 kind_exempt x some e h = taken x (known_some x.class some) (by (class_of x.class) some e)
   where
-    by : (o : Option Class) → is_some o ≡ true → shares_by o ≡ false → KindBy o x
+    by : (o : Option Class) → is_some o ≡ true → owes_by o FundContribution ≡ false → KindBy o x
     by None g f = absurd (true≢false (sym g))
     by (Some c) g f = when_no (owed c FundContribution) (Sharing x) (Exempt x) f h
 
 pub sharing_back : (x : Seat) → Kind x → shares x.class ≡ true → Sharing x
 sharing_back x k e = by (class_of x.class) e (taken_back x (sharing_some x.class e) k)
   where
-    by : (o : Option Class) → shares_by o ≡ true → KindBy o x → Sharing x
+    by : (o : Option Class) → owes_by o FundContribution ≡ true → KindBy o x → Sharing x
     by None f h = absurd h
     by (Some c) f h = yes_back (owed c FundContribution) (Sharing x) (Exempt x) f h
 
@@ -65,7 +65,7 @@ sharing_back x k e = by (class_of x.class) e (taken_back x (sharing_some x.class
 pub exempt_back : (x : Seat) → Kind x → 1 ≤ x.class → shares x.class ≡ false → Exempt x
 exempt_back x k some e = by (class_of x.class) e (taken_back x (λ z. omega (arith, z)) k)
   where
-    by : (o : Option Class) → shares_by o ≡ false → KindBy o x → Exempt x
+    by : (o : Option Class) → owes_by o FundContribution ≡ false → KindBy o x → Exempt x
     by None f h = absurd h
     by (Some c) f h = no_back (owed c FundContribution) (Sharing x) (Exempt x) f h
 

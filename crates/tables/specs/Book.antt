@@ -1,6 +1,6 @@
 -- When two tables form a book.
-use Rattle.std.specs.Prelude.{◌≡◌, ℕ, ◌+◌, ◌-◌, ◌*◌, ◌<◌, ◌≤◌, Bool, false, List, length, Some, None, MatchBool, Option, ◌==◌, slice_index_or}
-use Rattle.terms.specs.Classes.{class_of, owed}
+use Rattle.std.specs.Prelude.{◌≡◌, ℕ, ◌+◌, ◌-◌, ◌*◌, ◌<◌, ◌≤◌, Bool, List, length, Some, None, MatchBool, Option, ◌==◌, slice_index_or}
+use Rattle.terms.specs.Classes.{class_of, owed, owes}
 use Rattle.terms.specs.Limits.{all_pledges, all_seats, amount_limit, figure_limit, held_limit, day_limit, last_member, last_segment, minimum_limit, most_days}
 use Rattle.terms.specs.Sums.{sum_to}
 use Rattle.terms.specs.declared.classes.Class.{Class}
@@ -57,13 +57,9 @@ pub record Exempt (x : Seat) : Type 0 where
   pub asked : x.asked ≡ 0
   pub held : x.held ≡ 0
 
-abbrev pub shares_by : Option Class → Bool
-shares_by None = false
-shares_by (Some c) = owed c FundContribution
-
 -- the class of this number owes the fund a contribution
 abbrev pub shares : ℕ → Bool
-shares class = shares_by (class_of class)
+shares class = owes class FundContribution
 
 abbrev pub KindBy : Option Class → Seat → Type 0
 KindBy None x = ⊥

@@ -5,24 +5,14 @@ ghost use Rattle.tables.specs.Book.{Book, Empty, Exempt, IsMember, IsSegment, Ki
 ghost use Rattle.terms.specs.Limits.{all_seats, held_limit};
 
 use crate::records::{Pledges, Seat};
-use crate::within::{has_room, is_alike, place_of};
-use terms::limits::{
-    ALL_PLEDGES, ALL_SEATS, AMOUNT_LIMIT, FIGURE_LIMIT, LAST_DAY, LAST_MEMBER, LAST_SEGMENT,
-    MINIMUM_LIMIT, MOST_DAYS,
-};
-use terms::{Class, Duty};
+use crate::seats::Seats;
+use terms::limits::{ALL_PLEDGES, AMOUNT_LIMIT, FIGURE_LIMIT, LAST_DAY, MINIMUM_LIMIT, MOST_DAYS};
+use terms::{Class, Duty, Member, Segment};
 
 fn is_empty(seat: &Seat) -> bool
     ensures { Decides result (Empty seat.now) }
 {
-    seat.class == 0
-        && seat.minimum == 0
-        && seat.held == 0
-        && seat.asked == 0
-        && seat.sum == 0
-        && seat.days == 0
-        && seat.last_day == 0
-        && seat.last_figure == 0
+    *seat == Seat::default()
 }
 
 fn is_sharing(seat: &Seat) -> bool
@@ -53,18 +43,13 @@ fn is_ranged(seat: &Seat) -> bool
 fn is_kind(seat: &Seat) -> bool
     ensures { Decides result (Kind seat.now) }
 {
-    if seat.class == 0 {
+    if !seat.is_taken() {
         return is_empty(seat);
     }
-    match Class::numbered(seat.class) {
-        None => false,
-        Some(class) => {
-            if class.owes(Duty::FundContribution) {
-                is_sharing(seat)
-            } else {
-                is_exempt(seat)
-            }
-        }
+    match Class::try_from(seat.class) {
+        Ok(class) if class.owes(Duty::FundContribution) => is_sharing(seat),
+        Ok(_) => is_exempt(seat),
+        Err(_) => false,
     }
 }
 
@@ -74,69 +59,60 @@ fn is_sound(seat: &Seat) -> bool
     is_kind(seat) && is_ranged(seat)
 }
 
-fn all_sound(seats: &[Seat]) -> bool
-    ensures { Decides result ((k : ℕ) → k < length seats.now → Sound (slice_index_or seats.now k no_seat)) }
-{
-    for seat in seats {
-        if !is_sound(seat) {
-            return false;
-        }
-    }
-    true
-}
-
 fn is_pledged(pledges: &Pledges) -> bool
     ensures { Decides result (Pledged pledges.now) }
 {
     pledges.individual <= AMOUNT_LIMIT && pledges.extraordinary <= AMOUNT_LIMIT
 }
 
+fn all_sound(seats: &[Seat]) -> bool
+    ensures { Decides result ((k : ℕ) → k < length seats.now → Sound (slice_index_or seats.now k no_seat)) }
+{
+    seats.iter().all(|seat| is_sound(seat))
+}
+
 fn all_pledged(table: &[Pledges]) -> bool
     ensures { Decides result ((k : ℕ) → k < length table.now → Pledged (slice_index_or table.now k no_pledges)) }
 {
-    for p in table {
-        if !is_pledged(p) {
-            return false;
-        }
-    }
-    true
+    table.iter().all(|pledges| is_pledged(pledges))
 }
 
-fn has_one_class(seats: &[Seat], member: u64) -> bool
-    requires { (length seats.now ≡ all_seats) × (IsMember member) }
-    ensures { Decides result (OneClass seats.now member) }
-{
-    for s in 1..LAST_SEGMENT + 1 {
-        let c = seats[place_of(member, s)].class;
-        if c != 0 && !is_alike(seats, member, c) {
-            return false;
+impl<'a> Seats<'a> {
+    // Whether the seats that the member has share one class.
+    fn has_one_class(&self, member: Member) -> bool
+        ensures { Decides result (OneClass self.now.all.now member.number) }
+    {
+        for segment in Segment::all() {
+            let seat = self.seat(member, segment);
+            if seat.is_taken() && !self.is_alike(member, seat.class) {
+                return false;
+            }
         }
+        true
     }
-    true
-}
 
-fn all_one_class(seats: &[Seat]) -> bool
-    requires { length seats.now ≡ all_seats }
-    ensures { Decides result ((m : ℕ) → IsMember m → OneClass seats.now m) }
-{
-    for m in 1..LAST_MEMBER + 1 {
-        if !has_one_class(seats, m) {
-            return false;
+    fn all_one_class(&self) -> bool
+        ensures { Decides result ((m : ℕ) → IsMember m → OneClass self.now.all.now m) }
+    {
+        for member in Member::all() {
+            if !self.has_one_class(member) {
+                return false;
+            }
         }
+        true
     }
-    true
-}
 
-fn all_within(seats: &[Seat]) -> bool
-    requires { length seats.now ≡ all_seats }
-    ensures { Decides result ((s : ℕ) → IsSegment s → held_in seats.now s ≤ held_limit) }
-{
-    for s in 1..LAST_SEGMENT + 1 {
-        if !has_room(seats, s, 0) {
-            return false;
+    // Whether no segment holds more than its ceiling.
+    fn all_within(&self) -> bool
+        ensures { Decides result ((s : ℕ) → IsSegment s → held_in self.now.all.now s ≤ held_limit) }
+    {
+        for segment in Segment::all() {
+            if !self.has_room(segment, 0) {
+                return false;
+            }
         }
+        true
     }
-    true
 }
 
 /// Whether the two tables form a book: their lengths are right; each seat is all zeros, or of a known class and as that
@@ -145,10 +121,12 @@ fn all_within(seats: &[Seat]) -> bool
 pub fn is_book(seats: &[Seat], pledges: &[Pledges]) -> bool
     ensures { Decides result (Book seats.now pledges.now) }
 {
-    seats.len() == ALL_SEATS
-        && pledges.len() == ALL_PLEDGES
+    let Some(table) = Seats::of(seats) else {
+        return false;
+    };
+    pledges.len() == ALL_PLEDGES
         && all_sound(seats)
         && all_pledged(pledges)
-        && all_one_class(seats)
-        && all_within(seats)
+        && table.all_one_class()
+        && table.all_within()
 }

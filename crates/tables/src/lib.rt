@@ -2,9 +2,11 @@
 #![tactic(auto)]
 
 pub mod book;
-pub mod means;
 pub mod records;
-pub mod within;
+pub mod seats;
+pub mod view;
 
 pub use book::is_book;
 pub use records::{Pledges, Seat};
+pub use seats::{Seats, place_of};
+pub use view::Tables;

@@ -14,6 +14,13 @@ sum_to_suc n f = refl
 pub sum_to_more : (n : ℕ) (f : ℕ → ℕ) → sum_to (n + 1) f ≡ sum_to n f + f n
 sum_to_more n f = rw add-one (sum_to_suc n f)
 
+-- of a count that is another one more, or none
+pub sum_to_next : (m n : ℕ) (f : ℕ → ℕ) → m ≡ n + 1 → sum_to m f ≡ sum_to n f + f n
+sum_to_next m n f e = ap (λ k. sum_to k f) e ∙ sum_to_more n f
+
+pub sum_to_empty : (n : ℕ) (f : ℕ → ℕ) → n ≡ 0 → sum_to n f ≡ 0
+sum_to_empty n f e = ap (λ k. sum_to k f) e ∙ sum_to_none f
+
 -- two summands that agree below n have one sum
 pub sum_to_same : (n : ℕ) (f g : ℕ → ℕ) → ((k : ℕ) → k < n → f k ≡ g k) → sum_to n f ≡ sum_to n g
 sum_to_same zero f g h = sum_to_none f ∙ sym (sum_to_none g)

@@ -27,3 +27,11 @@ owed CentralBank IndividualAmounts = false
 owed CentralBank StressAmount = false
 owed CentralBank FundContribution = false
 owed CentralBank TreasuryAmount = false
+
+abbrev pub owes_by : Option Class → Duty → Bool
+owes_by None duty = false
+owes_by (Some class) duty = owed class duty
+
+-- the class of this number owes the duty
+abbrev pub owes : ℕ → Duty → Bool
+owes class duty = owes_by (class_of class) duty

@@ -1,7 +1,10 @@
 // Classes of members, and the duties of each.
 
-ghost use Rattle.terms.specs.Classes.{class_of, owed};
-ghost use Rattle.std.specs.Prelude.{◌≡◌};
+ghost use Rattle.terms.specs.Classes.{class_of, owed, owes};
+ghost use Rattle.std.specs.Prelude.{◌≡◌, ok_or};
+ghost use Rattle.terms.specs.declared.refusals.Refusal.TheVariants.{WrongClass};
+
+use crate::refusals::Refusal;
 
 /// The class in which a member is admitted.
 #[derive(Clone, Copy, PartialEq, Eq, Debug)]
@@ -29,17 +32,31 @@ const DUTIES: [[bool; 4]; 4] = [
     [false, false, false, false],
 ];
 
-impl Class {
-    /// The class of this number: 1 general, 2 individual, 3 treasury, 4 central bank.
-    pub fn numbered(number: u64) -> Option<Class>
-        ensures { result ≡ class_of number }
-    {
+/// The class of this number: 1 general, 2 individual, 3 treasury, 4 central bank.
+impl TryFrom<u64> for Class {
+    type Error = Refusal;
+
+    ghost try_from_gives = { λ n r. r ≡ ok_or (class_of n) WrongClass };
+
+    fn try_from(number: u64) -> Result<Class, Refusal> {
         match number {
-            1 => Some(Class::General),
-            2 => Some(Class::Individual),
-            3 => Some(Class::Treasury),
-            4 => Some(Class::CentralBank),
-            _ => None,
+            1 => Ok(Class::General),
+            2 => Ok(Class::Individual),
+            3 => Ok(Class::Treasury),
+            4 => Ok(Class::CentralBank),
+            _ => Err(Refusal::WrongClass),
+        }
+    }
+}
+
+impl Class {
+    /// Whether a member of the class of this number owes the duty; of a number that is no class's, none is owed.
+    pub fn number_owes(number: u64, duty: Duty) -> bool
+        ensures { result ≡ owes number duty }
+    {
+        match Class::try_from(number) {
+            Ok(class) => class.owes(duty),
+            Err(_) => false,
         }
     }
 

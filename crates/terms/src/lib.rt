@@ -3,9 +3,10 @@
 
 pub mod classes;
 pub mod limits;
-pub mod lists;
+pub mod numbers;
 pub mod refusals;
 pub mod rounding;
 
 pub use classes::{Class, Duty};
+pub use numbers::{Amount, Day, Member, Segment, UpTo};
 pub use refusals::Refusal;

@@ -7,65 +7,65 @@ ghost use Rattle.std.specs.Prelude.{◌≡◌};
 #[derive(Clone, Copy, PartialEq, Eq, Debug)]
 pub enum Refusal {
     /// The member is none of 1 to 64.
-    Member,
+    Member = 1,
     /// The segment is none of 1 to 5.
-    Segment,
+    Segment = 2,
     /// The day is none of 1 to 1,000,000.
-    Day,
+    Day = 3,
     /// The scenario count is none of 1 to 64.
-    Scenarios,
+    Scenarios = 4,
     /// The sheet has no whole number of assets from 1 to 64, or a change is out of range.
-    Sheet,
+    Sheet = 5,
     /// Too many positions, an unknown asset, or a quantity that is 0 or out of range.
-    Positions,
+    Positions = 6,
     /// A margin is above its limit.
-    Margin,
+    Margin = 7,
     /// A column would pass its limit.
-    Column,
+    Column = 8,
     /// The tables are no book.
-    NoBook,
+    NoBook = 10,
     /// The seat is taken.
-    SeatTaken,
+    SeatTaken = 11,
     /// The class is unknown, or unlike that of the member's other seats.
-    WrongClass,
+    WrongClass = 12,
     /// The minimum is not as a book has it.
-    Minimum,
+    Minimum = 13,
     /// The amount is out of range.
-    Amount,
+    Amount = 14,
     /// A ceiling of the book would be passed.
-    Ceiling,
+    Ceiling = 15,
     /// There is no such seat.
-    NoSeat,
+    NoSeat = 16,
     /// The day is not after the last one booked.
-    PastDay,
+    PastDay = 17,
     /// The mean has all the days that it can have.
-    DaysFull,
+    DaysFull = 18,
     /// The class is exempt from this.
-    Exempt,
+    Exempt = 19,
     /// A seat holds less than is asked of it.
-    Short,
+    Short = 20,
     /// A sharing seat has no figure in its mean.
-    NoFigure,
+    NoFigure = 21,
     /// No member shares in the segment.
-    NoneShares,
+    NoneShares = 22,
     /// The size of the fund is above its limit.
-    FundSize,
+    FundSize = 23,
     /// Less than is asked, or than was pledged, would stay.
-    TooLittleLeft,
+    TooLittleLeft = 24,
     /// A loss of more than the segment holds, or too few contrary contracts.
-    TooMuch,
+    TooMuch = 25,
     /// Equity is short by more than a tenth of what is required.
-    EquityShort,
+    EquityShort = 26,
     /// A list that the caller brought has the wrong length.
-    Lengths,
+    Lengths = 27,
     /// A line has another key than the one expected, or does not end.
-    Key,
+    Key = 31,
     /// A bad number, kind or form, or a wrong number of fields.
-    Field,
+    Field = 32,
     /// A line of changes that are not one to a scenario, or an end that counts wrongly.
-    Count,
+    Count = 33,
     /// The file is too long, or goes on after its end.
-    TooLong,
+    TooLong = 34,
 }
 
 impl Refusal {
@@ -73,37 +73,6 @@ impl Refusal {
     pub fn number(self) -> u8
         ensures { result ≡ number_of self }
     {
-        match self {
-            Refusal::Member => 1,
-            Refusal::Segment => 2,
-            Refusal::Day => 3,
-            Refusal::Scenarios => 4,
-            Refusal::Sheet => 5,
-            Refusal::Positions => 6,
-            Refusal::Margin => 7,
-            Refusal::Column => 8,
-            Refusal::NoBook => 10,
-            Refusal::SeatTaken => 11,
-            Refusal::WrongClass => 12,
-            Refusal::Minimum => 13,
-            Refusal::Amount => 14,
-            Refusal::Ceiling => 15,
-            Refusal::NoSeat => 16,
-            Refusal::PastDay => 17,
-            Refusal::DaysFull => 18,
-            Refusal::Exempt => 19,
-            Refusal::Short => 20,
-            Refusal::NoFigure => 21,
-            Refusal::NoneShares => 22,
-            Refusal::FundSize => 23,
-            Refusal::TooLittleLeft => 24,
-            Refusal::TooMuch => 25,
-            Refusal::EquityShort => 26,
-            Refusal::Lengths => 27,
-            Refusal::Key => 31,
-            Refusal::Field => 32,
-            Refusal::Count => 33,
-            Refusal::TooLong => 34,
-        }
+        self as u8
     }
 }

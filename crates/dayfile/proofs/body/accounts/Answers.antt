@@ -1,102 +1,65 @@
-use Rattle.std.proofs.Common.{◌+◌, Some, None, sym, ap, ◌∙◌, subst, arith}
+use Rattle.std.proofs.Common.{◌+◌, Some, Err, sym, ap, subst, ◌∙◌, rules, arith}
+use Rattle.std.proofs.lemmas.Result.{err_from_is_err_and}
+use Rattle.terms.specs.declared.refusals.Refusal.TheVariants as refusals
+use Rattle.dayreport.specs.declared.faults.Fault.TheVariants.{Line}
 use Rattle.dayfile.specs.Days.{taking}
-use Rattle.dayfile.proofs.Turns.{Whole, State, Sofar, in_hand, err_read, done_after, acc_not_pos, end_not_pos, row_not_pos, rule_kept, columns_kept, tail_refused, pos_more, refused, acc_more, end_wrong, end_after, end_read, unknown}
+use Rattle.dayfile.proofs.Turns.{Whole, State, Sofar, in_hand, err_read, done_after, acc_not_pos, end_not_pos, rule_kept, columns_kept, refused, acc_more, end_after, end_read, count_is, unknown}
 use Rattle.dayfile.proofs.body.accounts.Goals as goal
-use Rattle.dayfile.proofs.body.accounts.Goals.{in-Position-row_of+in-Some-hand+in-Some-position+else-count-eq-MOST_POSITIONS, in-Account+in_default-settle-2+in-Some-account}
-
-pub returns-in-Some-settle : goal.returns-in-Some-settle
-returns-in-Some-settle c =
-    let w : Whole = record { add = taking c.args.tally.now.scenarios c.args.sheet.now; columns = c.args.tally.now.columns; bytes = c.args.bytes.now; first = c.args.first } in
-    let x : State = record { rest = c.loop-line.rest.now; n = c.loop-line.n; begun = c.loop-line.begun; hand = c.loop-line.hand; count = c.loop-line.count; held = c.loop-line.held; columns = c.loop-line.tally.columns } in
-    record {
-      is = err_read w _ _ _ (tail_refused w x c.loop-line.invariant.0.0 c.loop-line.invariant.0.1 c.in_default.ensures (row_not_pos c.loop-line.rest.now c.row_of.result c.row_of.ensures c.in_default-row_of.not-Position) c.in-Some-settle.fault (rule_kept c.loop-line.tally.scenarios c.args.tally.now.scenarios c.args.sheet.now c.loop-line.tally.columns (in_hand x) (Some c.in-Some-settle.fault) c.loop-line.invariant.2 c.in-Some-settle.ensures.fault));
-      kept = (c.settle.ensures.after.closing ∙ c.loop-line.invariant.1, c.settle.ensures.after.scenarios ∙ c.loop-line.invariant.2);
-      few = tt;
-    }
-
-pub returns-then-k-begun : goal.returns-then-k-begun
-returns-then-k-begun c =
-    let w : Whole = record { add = taking c.args.tally.now.scenarios c.args.sheet.now; columns = c.args.tally.now.columns; bytes = c.args.bytes.now; first = c.args.first } in
-    let x : State = record { rest = c.loop-line.rest.now; n = c.loop-line.n; begun = c.loop-line.begun; hand = c.loop-line.hand; count = c.loop-line.count; held = c.loop-line.held; columns = c.loop-line.tally.columns } in
-    record {
-      is = err_read w _ _ _ (end_wrong w x c.loop-line.invariant.0.0 c.loop-line.invariant.0.1 c.in-Some.line.now c.in-Some.next.now c.in-Some.ensures.0 c.in-Some.ensures.1 (end_not_pos c.in-Some.line.now c.in-End.text.now c.in-End.ensures) (rule_kept c.loop-line.tally.scenarios c.args.tally.now.scenarios c.args.sheet.now c.loop-line.tally.columns (in_hand x) None c.loop-line.invariant.2 c.in_default-settle-3.ensures.fault) c.in-End.text.now c.in-End.ensures c.in-Some-plain.k c.in-Some-plain.ensures.is c.if-k-begun.true);
-      kept = (c.settle-in-End.ensures.after.closing ∙ c.loop-line.invariant.1, c.settle-in-End.ensures.after.scenarios ∙ c.loop-line.invariant.2);
-      few = tt;
-    }
-
-pub returns-then-next-gt0 : goal.returns-then-next-gt0
-returns-then-next-gt0 c =
-    let w : Whole = record { add = taking c.args.tally.now.scenarios c.args.sheet.now; columns = c.args.tally.now.columns; bytes = c.args.bytes.now; first = c.args.first } in
-    let x : State = record { rest = c.loop-line.rest.now; n = c.loop-line.n; begun = c.loop-line.begun; hand = c.loop-line.hand; count = c.loop-line.count; held = c.loop-line.held; columns = c.loop-line.tally.columns } in
-    record {
-      is = err_read w _ _ _ (end_after w x c.loop-line.invariant.0.0 c.loop-line.invariant.0.1 c.in-Some.line.now c.in-Some.next.now c.in-Some.ensures.0 c.in-Some.ensures.1 (end_not_pos c.in-Some.line.now c.in-End.text.now c.in-End.ensures) (rule_kept c.loop-line.tally.scenarios c.args.tally.now.scenarios c.args.sheet.now c.loop-line.tally.columns (in_hand x) None c.loop-line.invariant.2 c.in_default-settle-3.ensures.fault) c.in-End.text.now c.in-End.ensures c.in-Some-plain.k c.in-Some-plain.ensures.is c.if-k-begun.false c.if-next-gt0.true);
-      kept = (c.settle-in-End.ensures.after.closing ∙ c.loop-line.invariant.1, c.settle-in-End.ensures.after.scenarios ∙ c.loop-line.invariant.2);
-      few = tt;
-    }
-
-pub returns-in-End : goal.returns-in-End
-returns-in-End c =
-    let w : Whole = record { add = taking c.args.tally.now.scenarios c.args.sheet.now; columns = c.args.tally.now.columns; bytes = c.args.bytes.now; first = c.args.first } in
-    let x : State = record { rest = c.loop-line.rest.now; n = c.loop-line.n; begun = c.loop-line.begun; hand = c.loop-line.hand; count = c.loop-line.count; held = c.loop-line.held; columns = c.loop-line.tally.columns } in
-    record {
-      is = end_read w x c.loop-line.invariant.0.0 c.loop-line.invariant.0.1 c.in-Some.line.now c.in-Some.next.now c.in-Some.ensures.0 c.in-Some.ensures.1 (end_not_pos c.in-Some.line.now c.in-End.text.now c.in-End.ensures) (rule_kept c.loop-line.tally.scenarios c.args.tally.now.scenarios c.args.sheet.now c.loop-line.tally.columns (in_hand x) None c.loop-line.invariant.2 c.in_default-settle-3.ensures.fault) c.in-End.text.now c.in-End.ensures c.in-Some-plain.k c.in-Some-plain.ensures.is c.if-k-begun.false (omega (arith, c.if-next-gt0.false)) c.settle-in-End.new.tally.columns
-          (columns_kept c.loop-line.tally.scenarios c.args.tally.now.scenarios c.args.sheet.now c.loop-line.tally.columns (in_hand x) c.settle-in-End.new.tally.columns c.loop-line.invariant.2 c.settle-in-End.ensures.after.columns);
-      kept = (c.settle-in-End.ensures.after.closing ∙ c.loop-line.invariant.1, c.settle-in-End.ensures.after.scenarios ∙ c.loop-line.invariant.2);
-      few = c.loop-line.invariant.0.1.few;
-    }
-
-pub returns-in-Some-settle-4 : goal.returns-in-Some-settle-4
-returns-in-Some-settle-4 c =
-    let w : Whole = record { add = taking c.args.tally.now.scenarios c.args.sheet.now; columns = c.args.tally.now.columns; bytes = c.args.bytes.now; first = c.args.first } in
-    let x : State = record { rest = c.loop-line.rest.now; n = c.loop-line.n; begun = c.loop-line.begun; hand = c.loop-line.hand; count = c.loop-line.count; held = c.loop-line.held; columns = c.loop-line.tally.columns } in
-    record {
-      is = err_read w _ _ _ (refused w x c.loop-line.invariant.0.0 c.loop-line.invariant.0.1 c.in-Some.line.now c.in-Some.next.now c.in-Some.ensures.0 c.in-Some.ensures.1 (λ t. (c.in-Other.ensures t).0) c.in-Some-settle-4.fault (rule_kept c.loop-line.tally.scenarios c.args.tally.now.scenarios c.args.sheet.now c.loop-line.tally.columns (in_hand x) (Some c.in-Some-settle-4.fault) c.loop-line.invariant.2 c.in-Some-settle-4.ensures.fault));
-      kept = (c.settle-in-Other.ensures.after.closing ∙ c.loop-line.invariant.1, c.settle-in-Other.ensures.after.scenarios ∙ c.loop-line.invariant.2);
-      few = tt;
-    }
-
-pub returns-in-Other : goal.returns-in-Other
-returns-in-Other c =
-    let w : Whole = record { add = taking c.args.tally.now.scenarios c.args.sheet.now; columns = c.args.tally.now.columns; bytes = c.args.bytes.now; first = c.args.first } in
-    let x : State = record { rest = c.loop-line.rest.now; n = c.loop-line.n; begun = c.loop-line.begun; hand = c.loop-line.hand; count = c.loop-line.count; held = c.loop-line.held; columns = c.loop-line.tally.columns } in
-    record {
-      is = err_read w _ _ _ (unknown w x c.loop-line.invariant.0.0 c.loop-line.invariant.0.1 c.in-Some.line.now c.in-Some.next.now c.in-Some.ensures.0 c.in-Some.ensures.1 (λ t. (c.in-Other.ensures t).0) (rule_kept c.loop-line.tally.scenarios c.args.tally.now.scenarios c.args.sheet.now c.loop-line.tally.columns (in_hand x) None c.loop-line.invariant.2 c.in_default-settle-4.ensures.fault) (λ t. (c.in-Other.ensures t).1) (λ t. (c.in-Other.ensures t).2));
-      kept = (c.settle-in-Other.ensures.after.closing ∙ c.loop-line.invariant.1, c.settle-in-Other.ensures.after.scenarios ∙ c.loop-line.invariant.2);
-      few = tt;
-    }
 
 pub loop-line-preserved : goal.loop-line-preserved
 loop-line-preserved c =
-    let w : Whole = record { add = taking c.args.tally.now.scenarios c.args.sheet.now; columns = c.args.tally.now.columns; bytes = c.args.bytes.now; first = c.args.first } in
-    let x : State = record { rest = c.loop-line.rest.now; n = c.loop-line.n; begun = c.loop-line.begun; hand = c.loop-line.hand; count = c.loop-line.count; held = c.loop-line.held; columns = c.loop-line.tally.columns } in
-    let after : State = record { rest = c.in-Some.next.now; n = c.loop-line.n + 1; begun = c.match-row_of-2.begun; hand = c.match-row_of-2.hand; count = c.match-row_of-2.count; held = c.match-row_of-2.held; columns = c.match-row_of-2.tally.columns } in
-    elim c.match-row_of-2.branch [
-      | in-Position-row_of+in-Some-hand+in-Some-position+else-count-eq-MOST_POSITIONS v ↦ (
-        (
-          c.loop-line.invariant.0.0,
-          subst (λ y. Sofar w y c.loop-line.invariant.0.0)
-              (λ i. record { rest = c.in-Some.next.now; n = c.loop-line.n + 1; begun = sym v.begun-is i; hand = (v.in-Some-hand.is ∙ sym v.hand-is) i; count = sym v.count-is i; held = sym v.held-is i; columns = sym (ap (λ t. t.columns) v.tally-is) i })
-              (pos_more w x c.loop-line.invariant.0.0 c.loop-line.invariant.0.1 c.in-Some.line.now c.in-Some.next.now c.in-Some.ensures.0 c.in-Some.ensures.1 v.in-Position-row_of.text.now v.in-Position-row_of.ensures v.in-Some-hand.«open» v.in-Some-hand.is v.in-Some-position.p v.in-Some-position.ensures v.if-count-eq-MOST_POSITIONS.false),
-        ),
-        ap (λ t. t.closing) v.tally-is ∙ c.loop-line.invariant.1,
-        ap (λ t. t.scenarios) v.tally-is ∙ c.loop-line.invariant.2,
-      )
-      | in-Account+in_default-settle-2+in-Some-account v ↦ (
-        (
-          done_after c.loop-line.invariant.0.0 (in_hand x),
-          subst (λ y. Sofar w y (done_after c.loop-line.invariant.0.0 (in_hand x)))
-              (λ i. record {
-                rest = c.in-Some.next.now;
-                n = c.loop-line.n + 1;
-                begun = sym v.begun-is i;
-                hand = sym v.hand-is i;
-                count = sym v.count-is i;
-                held = sym v.held-is i;
-                columns = sym (ap (λ t. t.columns) v.tally-is ∙ columns_kept c.loop-line.tally.scenarios c.args.tally.now.scenarios c.args.sheet.now c.loop-line.tally.columns (in_hand x) v.settle-in-Account.new.tally.columns c.loop-line.invariant.2 v.settle-in-Account.ensures.after.columns) i;
-              })
-              (acc_more w x c.loop-line.invariant.0.0 c.loop-line.invariant.0.1 c.in-Some.line.now c.in-Some.next.now c.in-Some.ensures.0 c.in-Some.ensures.1 (acc_not_pos c.in-Some.line.now v.in-Account.text.now v.in-Account.ensures) (rule_kept c.loop-line.tally.scenarios c.args.tally.now.scenarios c.args.sheet.now c.loop-line.tally.columns (in_hand x) None c.loop-line.invariant.2 v.in_default-settle-2.ensures.fault) v.in-Account.text.now v.in-Account.ensures v.in-Some-account.account v.in-Some-account.ensures),
-        ),
-        ap (λ t. t.closing) v.tally-is ∙ v.settle-in-Account.ensures.after.closing ∙ c.loop-line.invariant.1,
-        ap (λ t. t.scenarios) v.tally-is ∙ v.settle-in-Account.ensures.after.scenarios ∙ c.loop-line.invariant.2,
-      )
-    ]
+    let w : Whole = record { add = taking c.args.tally.now.scenarios c.args.sheet.now; columns = c.args.tally.now.columns; bytes = c.args.lines.now.rest.now; first = c.args.lines.now.number } in
+    let x : State = record { rest = c.loop-line.lines.rest.now; n = c.loop-line.lines.number; begun = c.loop-line.begun; hand = c.loop-line.hand; held = c.loop-line.held; columns = c.loop-line.tally.columns } in
+    let s = c.loop-line.invariant in
+    let is = rw c.in-Some-Account.field-0-is at c.in-Some-Account.ensures in
+    let a = sym c.in_ok-account-in-Some-Account.ensures.ok_part ∙ c.account.ensures in
+    let more = acc_more w x s.0.0 s.0.1 c.in-Some.line.now c.line.new.self.rest.now c.in-Some.ensures.0 c.in-Some.ensures.1 (acc_not_pos c.in-Some.line.now c.in-Some-Account.text.now is) (rule_kept x c.args.tally.now.scenarios c.loop-line.tally.scenarios c.args.sheet.now s.2 c.in_ok-settle-in-Some-Account.ensures.fault) c.in-Some-Account.text.now is c.in_ok-account-in-Some-Account.account a in (
+      (
+        done_after s.0.0 (in_hand x),
+        subst (λ y. Sofar w y (done_after s.0.0 (in_hand x)))
+            (λ i. record {
+              rest = c.line.new.self.rest.now;
+              n = sym c.in-Some.ensures.2 i;
+              begun = c.loop-line.begun + 1;
+              hand = Some (record { line = c.loop-line.lines.number; account = c.in_ok-account-in-Some-Account.account; count = 0 });
+              held = c.loop-line.held;
+              columns = sym (columns_kept x c.args.tally.now.scenarios c.loop-line.tally.scenarios c.args.sheet.now s.2 c.settle-in-Some-Account.ensures.after.columns) i;
+            })
+            more,
+      ),
+      c.settle-in-Some-Account.ensures.after.closing ∙ s.1,
+      c.settle-in-Some-Account.ensures.after.scenarios ∙ s.2,
+    )
+
+pub returns-then-lines-gt0-clause-is : goal.returns-then-lines-gt0-clause-is
+returns-then-lines-gt0-clause-is c =
+    let w : Whole = record { add = taking c.args.tally.now.scenarios c.args.sheet.now; columns = c.args.tally.now.columns; bytes = c.args.lines.now.rest.now; first = c.args.lines.now.number } in
+    let x : State = record { rest = c.loop-line.lines.rest.now; n = c.loop-line.lines.number; begun = c.loop-line.begun; hand = c.loop-line.hand; held = c.loop-line.held; columns = c.loop-line.tally.columns } in
+    let s = c.loop-line.invariant in
+    let is = rw c.in-Some-End.field-0-is at c.in-Some-End.ensures in
+    let k = sym c.in_ok-k-in-Some-End.ensures.ok_part ∙ c.plain.ensures.is in
+    err_read w _ _ _ (end_after w x s.0.0 s.0.1 c.in-Some.line.now c.line.new.self.rest.now c.in-Some.ensures.0 c.in-Some.ensures.1 (end_not_pos c.in-Some.line.now c.in-Some-End.text.now is) (rule_kept x c.args.tally.now.scenarios c.loop-line.tally.scenarios c.args.sheet.now s.2 c.in_ok-settle-in-Some-End.ensures.fault) c.in-Some-End.text.now is c.in_ok-k-in-Some-End.k k c.if-k-begun.false c.if-lines-gt0.true ∙ ap (λ n. Err (Line refusals.TooLong n)) (sym c.in-Some.ensures.2))
+
+pub returns-in-Some-End-clause-is : goal.returns-in-Some-End-clause-is
+returns-in-Some-End-clause-is c =
+    let w : Whole = record { add = taking c.args.tally.now.scenarios c.args.sheet.now; columns = c.args.tally.now.columns; bytes = c.args.lines.now.rest.now; first = c.args.lines.now.number } in
+    let x : State = record { rest = c.loop-line.lines.rest.now; n = c.loop-line.lines.number; begun = c.loop-line.begun; hand = c.loop-line.hand; held = c.loop-line.held; columns = c.loop-line.tally.columns } in
+    let s = c.loop-line.invariant in
+    let is = rw c.in-Some-End.field-0-is at c.in-Some-End.ensures in
+    let k = sym c.in_ok-k-in-Some-End.ensures.ok_part ∙ c.plain.ensures.is in
+    end_read w x s.0.0 s.0.1 c.in-Some.line.now c.line.new.self.rest.now c.in-Some.ensures.0 c.in-Some.ensures.1 (end_not_pos c.in-Some.line.now c.in-Some-End.text.now is) (rule_kept x c.args.tally.now.scenarios c.loop-line.tally.scenarios c.args.sheet.now s.2 c.in_ok-settle-in-Some-End.ensures.fault) c.in-Some-End.text.now is c.in_ok-k-in-Some-End.k k c.if-k-begun.false (omega (arith, c.if-lines-gt0.false)) c.map_or.result (count_is _ c.loop-line.hand c.map_or.result (λ o q. search rules) c.map_or.ensures) c.settle-in-Some-End.new.tally.columns (columns_kept x c.args.tally.now.scenarios c.loop-line.tally.scenarios c.args.sheet.now s.2 c.settle-in-Some-End.ensures.after.columns)
+
+pub returns-in_err-settle-in-None-clause-is : goal.returns-in_err-settle-in-None-clause-is
+returns-in_err-settle-in-None-clause-is c =
+    let w : Whole = record { add = taking c.args.tally.now.scenarios c.args.sheet.now; columns = c.args.tally.now.columns; bytes = c.args.lines.now.rest.now; first = c.args.lines.now.number } in
+    let x : State = record { rest = c.loop-line.lines.rest.now; n = c.loop-line.lines.number; begun = c.loop-line.begun; hand = c.loop-line.hand; held = c.loop-line.held; columns = c.loop-line.tally.columns } in
+    let s = c.loop-line.invariant in
+    let p = err_from_is_err_and c.from_residual-in_err-settle-in-None.result c.from_residual-in_err-settle-in-None.ensures.1 in
+    rw (p.1, p.2) (err_read w _ _ _ (refused w x s.0.0 s.0.1 c.in-Some.line.now c.line.new.self.rest.now c.in-Some.ensures.0 c.in-Some.ensures.1 (λ t. (c.in-None.ensures t).0) _ (rule_kept x c.args.tally.now.scenarios c.loop-line.tally.scenarios c.args.sheet.now s.2 c.in_err-settle-in-None.ensures.fault)))
+
+pub returns-in-None-clause-is : goal.returns-in-None-clause-is
+returns-in-None-clause-is c =
+    let w : Whole = record { add = taking c.args.tally.now.scenarios c.args.sheet.now; columns = c.args.tally.now.columns; bytes = c.args.lines.now.rest.now; first = c.args.lines.now.number } in
+    let x : State = record { rest = c.loop-line.lines.rest.now; n = c.loop-line.lines.number; begun = c.loop-line.begun; hand = c.loop-line.hand; held = c.loop-line.held; columns = c.loop-line.tally.columns } in
+    let s = c.loop-line.invariant in
+    err_read w _ _ _ (unknown w x s.0.0 s.0.1 c.in-Some.line.now c.line.new.self.rest.now c.in-Some.ensures.0 c.in-Some.ensures.1 (λ t. (c.in-None.ensures t).0) (rule_kept x c.args.tally.now.scenarios c.loop-line.tally.scenarios c.args.sheet.now s.2 c.in_ok-settle-in-None.ensures.fault) (λ t. (c.in-None.ensures t).1) (λ t. (c.in-None.ensures t).2))

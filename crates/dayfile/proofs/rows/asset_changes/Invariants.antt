@@ -1,9 +1,8 @@
-use Rattle.std.proofs.Common.{List, length, ℤ}
+use Rattle.std.proofs.Common.{List, ℕ, ℤ}
+use Rattle.std.proofs.lemmas.Iterator.{YieldsList}
 use Rattle.dayfile.proofs.ChangeRows.{RowSofar}
 use Rattle.dayfile.proofs.rows.asset_changes.Given as goal
 
-abbrev pub invariant-loop-z : goal.invariant-loop-z
-invariant-loop-z l = (zs : List ℤ) × RowSofar l.text l.initial.out l.at l.scenarios l.rest l.out l.k l.ranged zs
-
-abbrev pub decreases-loop-z : goal.decreases-loop-z
-decreases-loop-z l = length l.rest
+-- the fields that are left, and the changes that were read
+abbrev pub invariant-loop-field : goal.invariant-loop-field
+invariant-loop-field l = (left : List (List ℕ)) × (zs : List ℤ) × YieldsList (goal.iterator-loop-field).next_gives (λ f. f.now) l.field-iterator left × RowSofar l.text l.initial.row left l.row l.count l.ranged zs

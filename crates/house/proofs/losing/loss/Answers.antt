@@ -1,82 +1,59 @@
-use Rattle.std.proofs.Common.{◌≡◌, ℕ, ◌+◌, ◌-◌, ◌≤◌, min, true, List, length, get_or, set, sym, refl, ap, ◌∙◌, subst, arith}
-use Rattle.terms.specs.Limits.{all_members}
-use Rattle.tables.specs.Book.{Book, IsMember, IsSegment, held_in, no_seat, seat_at, shares}
+use Rattle.std.proofs.Common.{◌≡◌, ◌≤◌, min, set, sym, refl, ap, ◌∙◌, subst, arith, rules}
+use Rattle.tables.specs.Book.{Book, held_in, seat_at, shares}
 use Rattle.tables.specs.declared.records.Seat.{Seat}
-use Rattle.house.specs.Holders.{own_of}
+use Rattle.house.specs.Holders.{own_of, stake_of}
 use Rattle.house.specs.Loss.{holders_in}
-use Rattle.house.specs.Promises.{ChargesFair}
-use Rattle.house.specs.Rows.{Charged}
-use Rattle.house.proofs.Charging.{charges_fair, stakes_sum}
-use Rattle.house.proofs.LossBooks.{held_falls, loss_book, quiet}
-use Rattle.house.proofs.Staking.{charged_is, weights_sum}
+use Rattle.house.proofs.Bearing.{Bearable, Borne, are_fair, is_borne, stakes_small}
 use Rattle.house.proofs.losing.loss.Goals as goal
+use Rattle.house.proofs.losing.loss.Goals.{After-stakes_against-stakes, After-min-own, In_ok-seat}
 
-pub split-requires : goal.split-requires
-split-requires c =
+bearable : (c : After-stakes_against-stakes) → Bearable c.args.seats.now c.args.pledges.now c.in_ok-segment.segment.number c.in_ok-member.member.number c.number-amount.result c.stakes_against-stakes.result
+bearable c =
     let t = c.args.seats.now in
-    let s = c.args.segment in
-    let d = c.args.member in
-    let x = holders_in t s in
-    let st = c.stake_all.new.stakes in
-    let book : Book t c.args.pledges.now = c.if-not-is_book.ensures.0 refl in
-    let im : IsMember d = c.if-not-is_member.ensures.0 refl in
-    let is : IsSegment s = c.if-not-is_segment.ensures.0 refl in
-    let long : length st ≡ all_members = omega (arith, c.stake_all.auto.stakes) in
+    let s = c.in_ok-segment.segment.number in
+    let d = c.in_ok-member.member.number in
+    let book : (c.in_ok-tables.tables.seats.now ≡ t) × Book t c.args.pledges.now = search rules in
     record {
-      total = omega arith;
-      whole = omega (arith, weights_sum x d st long c.stake_all.ensures, stakes_sum x d im (quiet t c.args.pledges.now s book is), book.ceiling s is);
-      room = omega (arith, long);
+      book = book.1;
+      member = c.in_ok-member.member.known;
+      segment = c.in_ok-segment.segment.known;
+      within = omega (arith, c.if-amount-held_in.false, c.held_in.ensures, ap (λ t. held_in t s) book.0);
+      long = omega arith;
+      are = λ m im. c.stakes_against-stakes.ensures m im ∙ ap (λ t. stake_of (holders_in t s) d m) book.0;
     }
 
-pub charge_all-requires : goal.charge_all-requires
-charge_all-requires c =
-    let t = c.args.seats.now in
-    let s = c.args.segment in
-    let d = c.args.member in
-    let a = c.args.amount in
-    let x = holders_in t s in
-    let p = c.args.pledges.now in
-    let st = c.stake_all.new.stakes in
-    let book : Book t p = c.if-not-is_book.ensures.0 refl in
-    let im : IsMember d = c.if-not-is_member.ensures.0 refl in
-    let is : IsSegment s = c.if-not-is_segment.ensures.0 refl in
-    let long : length st ≡ all_members = omega (arith, c.stake_all.auto.stakes) in
-    let lp : length c.split.new.parts ≡ all_members = omega (arith, c.split.auto.parts) in
-    let own : c.min-own.result ≡ own_of x d a = c.min-own.ensures ∙ ap (λ (i : ℕ). min (get_or t i no_seat).held a) c.place_of.ensures.is in
-    let within : a ≤ held_in t s = omega (arith, c.held_in.ensures, c.if-amount-held_in.false) in
-    let done : Charged x d a (set c.split.new.parts (d - 1) c.min-own.result) = charged_is x d st long c.stake_all.ensures a c.min-own.result c.split.new.parts im lp own c.split.ensures in
-    let fair : ChargesFair x d a (set c.split.new.parts (d - 1) c.min-own.result) = charges_fair x d im (quiet t p s book is) a within (set c.split.new.parts (d - 1) c.min-own.result) done in
-    record { long = (book.seats, done.long); segment = is; enough = fair.within }
+seat : (c : In_ok-seat) → (c.in_ok-seat.seat ≡ seat_at c.args.seats.now c.in_ok-member.member.number c.in_ok-segment.segment.number) × (1 ≤ c.in_ok-seat.seat.class)
+seat c =
+    let book : (c.in_ok-tables.tables.seats.now ≡ c.args.seats.now) × Book c.args.seats.now c.args.pledges.now = search rules in
+    let here : c.in_ok-seat.seat ≡ seat_at c.in_ok-tables.tables.seats.now c.in_ok-member.member.number c.in_ok-segment.segment.number = search rules in
+    let taken : 1 ≤ c.in_ok-seat.seat.class = search rules in
+    (here ∙ ap (λ t. seat_at t c.in_ok-member.member.number c.in_ok-segment.segment.number) book.0, taken)
+
+own : (c : After-min-own) → c.min-own.result ≡ own_of (holders_in c.args.seats.now c.in_ok-segment.segment.number) c.in_ok-member.member.number c.number-amount.result
+own c = c.min-own.ensures ∙ ap (λ (x : Seat). min x.held c.number-amount.result) ((seat (goal.at.After-min-own c).In_ok-seat).0)
+
+pub split-requires-clause-whole : goal.split-requires-clause-whole
+split-requires-clause-whole c = stakes_small _ _ _ _ _ _ (bearable (goal.at.split-requires-clause-whole c).After-stakes_against-stakes)
+
+pub charge_all-requires-clause-enough : goal.charge_all-requires-clause-enough
+charge_all-requires-clause-enough c =
+    let at = goal.at.charge_all-requires-clause-enough c in
+    (are_fair _ _ _ _ _ _ (bearable at.After-stakes_against-stakes) c.min-own.result c.index.result c.split.new.parts (omega (arith, c.split.auto.parts)) (own at.After-min-own) c.index.ensures.is c.split.ensures).within
 
 pub returns : goal.returns
 returns c =
     let t = c.args.seats.now in
-    let s = c.args.segment in
-    let d = c.args.member in
-    let a = c.args.amount in
-    let x = holders_in t s in
     let p = c.args.pledges.now in
-    let st = c.stake_all.new.stakes in
-    let book : Book t p = c.if-not-is_book.ensures.0 refl in
-    let im : IsMember d = c.if-not-is_member.ensures.0 refl in
-    let is : IsSegment s = c.if-not-is_segment.ensures.0 refl in
-    let long : length st ≡ all_members = omega (arith, c.stake_all.auto.stakes) in
-    let lp : length c.split.new.parts ≡ all_members = omega (arith, c.split.auto.parts) in
-    let at = c.place_of.ensures.is in
-    let own : c.min-own.result ≡ own_of x d a = c.min-own.ensures ∙ ap (λ (i : ℕ). min (get_or t i no_seat).held a) at in
-    let within : a ≤ held_in t s = omega (arith, c.held_in.ensures, c.if-amount-held_in.false) in
-    let charges : List ℕ = set c.split.new.parts (d - 1) c.min-own.result in
-    let done : Charged x d a charges = charged_is x d st long c.stake_all.ensures a c.min-own.result c.split.new.parts im lp own c.split.ensures in
-    let fair : ChargesFair x d a charges = charges_fair x d im (quiet t p s book is) a within charges done in
-    let class : (get_or t c.place_of.result no_seat).class ≡ (seat_at t d s).class = ap (λ (i : ℕ). (get_or t i no_seat).class) at in
-    let yes : x.shares d ≡ true = sym (c.if-not-shares_in.ensures ∙ ap (λ (i : ℕ). shares (get_or t i no_seat).class) at) in
-    let same = c.charge_all.ensures in
-    record {
-      is = (
-        (book, (im, (is, (omega arith, (omega (arith, class, c.if-seat-eq0.false), (yes, ((omega arith, omega arith), (within, tt)))))))),
-        (done, same),
-      );
-      fair = fair;
-      held = subst (λ (l : List Seat). held_in l s + a ≡ held_in t s) (sym same) (held_falls t p s book is d a charges fair);
-      book = subst (λ (l : List Seat). Book l p) (sym same) (loss_book t p s book is d a charges fair);
-    }
+    let s = c.in_ok-segment.segment.number in
+    let d = c.in_ok-member.member.number in
+    let a = c.number-amount.result in
+    let at = goal.at.returns c in
+    let here = seat at.In_ok-seat in
+    let typed = is_borne _ _ _ _ _ _ (bearable at.After-stakes_against-stakes) c.min-own.result c.index.result c.split.new.parts (omega (arith, c.split.auto.parts)) (own at.After-min-own) c.index.ensures.is c.split.ensures c.args.charges.now c.charge_all.new.seats
+    (omega arith) (subst (λ (x : Seat). 1 ≤ x.class) here.0 here.1) (sym (c.if-not-shares.ensures ∙ ap (λ (x : Seat). shares x.class) here.0)) c.number-amount.ensures.known c.charge_all.ensures in
+    let charges = set c.split.new.parts c.index.result c.min-own.result in
+    let given : Borne t p c.args.segment c.args.member c.args.amount c.args.charges.now c.charge_all.new.seats charges =
+    subst (λ a. Borne t p c.args.segment c.args.member a c.args.charges.now c.charge_all.new.seats charges) (search rules)
+    (subst (λ d. Borne t p c.args.segment d a c.args.charges.now c.charge_all.new.seats charges) (search rules)
+    (subst (λ s. Borne t p s d a c.args.charges.now c.charge_all.new.seats charges) (search rules) typed)) in
+    record { is = given.is; fair = given.fair; held = given.held; book = given.book }

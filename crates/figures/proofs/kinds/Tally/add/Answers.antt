@@ -1,33 +1,33 @@
-use Rattle.std.proofs.Common.{◌≡◌, ℕ, List, sym, refl, ap, ◌∙◌, arith}
-use Rattle.terms.specs.declared.refusals.Refusal.TheVariants.{Sheet, Positions, Margin, Column}
-use Rattle.figures.specs.Accounts.{sheet_ok, assets_of, positions_ok, margins_ok, every, column_ok, raised, offset_of}
-use Rattle.figures.proofs.Refusing.{last_fails, none_fails}
+use Rattle.std.proofs.Common.{true, false, get_or, sym, ap, ◌∙◌}
+use Rattle.std.specs.List.{list_all}
+use Rattle.figures.specs.Accounts.{column_ok, raised, offset_of, positions_ok}
+use Rattle.figures.proofs.Refusing.{columns_decide, limited, raised_past}
 use Rattle.figures.proofs.kinds.Tally.add.Goals as goal
 
-pub returns-then-not-raise : goal.returns-then-not-raise
-returns-then-not-raise c =
-    let new : ℕ → List ℕ = λ o. raised c.args.self.now.scenarios c.args.sheet.now o c.args.positions.now c.args.self.now.columns in
-    let fits : c.raise.result ≡ every column_ok (new (offset_of c.args.account)) = c.raise.ensures.fits ∙ ap (λ o. every column_ok (new o)) c.offset.ensures in
-    record {
-      refusal = last_fails (sheet_ok c.args.self.now.scenarios c.args.sheet.now) (positions_ok (assets_of c.args.self.now.scenarios c.args.sheet.now) c.args.positions.now) (margins_ok c.args.account) (every column_ok (new (offset_of c.args.account))) Sheet Positions Margin Column
-          (sym c.sheet_ok.ensures ∙ c.if-not-sheet_ok.false) (sym c.positions_ok.ensures ∙ c.if-not-positions_ok.false) (sym c.margins_ok.ensures ∙ c.if-not-margins_ok.false) (sym fits ∙ c.if-not-raise.true);
-      after = record { closing = refl; scenarios = refl; columns = refl };
-    }
+pub returns-then-not-columns_ok-clause-refusal : goal.returns-then-not-columns_ok-clause-refusal
+returns-then-not-columns_ok-clause-refusal c =
+    let s = c.in_ok-sheet.ensures in
+    let h = c.in_ok-holding.ensures in
+    let o = c.in_ok-offset.ensures in
+    let is = c.raised-columns.ensures ∙ (λ i. raised ((ap (λ t. t.scenarios) h.1 ∙ s.2) i) ((ap (λ t. t.changes.now) h.1 ∙ s.1) i) (o.1 i) (h.2 i) c.args.self.now.columns) in
+    columns_decide c.args.self.now.scenarios c.args.self.now.columns c.args.sheet.now c.args.account c.args.positions.now false s.0 (ap (λ n. positions_ok n c.args.positions.now) (sym s.3) ∙ h.0) o.0 (sym c.if-not-columns_ok.true ∙ c.columns_ok.ensures ∙ ap (list_all column_ok) is)
 
 pub invariant_of-self : goal.invariant_of-self
-invariant_of-self c = record {
-  counts = c.args.self.now.counts;
-  long = omega arith;
-  small = c.raise.ensures.small;
-  unused = λ k h. c.raise.ensures.past k h ∙ c.args.self.now.unused k h;
-}
-
-pub returns : goal.returns
-returns c =
-    let new : ℕ → List ℕ = λ o. raised c.args.self.now.scenarios c.args.sheet.now o c.args.positions.now c.args.self.now.columns in
-    let fits : c.raise.result ≡ every column_ok (new (offset_of c.args.account)) = c.raise.ensures.fits ∙ ap (λ o. every column_ok (new o)) c.offset.ensures in
+invariant_of-self c =
+    let s = c.in_ok-sheet.ensures in
+    let h = c.in_ok-holding.ensures in
+    let o = c.in_ok-offset.ensures in
+    let is = c.raised-columns.ensures ∙ (λ i. raised ((ap (λ t. t.scenarios) h.1 ∙ s.2) i) ((ap (λ t. t.changes.now) h.1 ∙ s.1) i) (o.1 i) (h.2 i) c.args.self.now.columns) in
     record {
-      refusal = none_fails (sheet_ok c.args.self.now.scenarios c.args.sheet.now) (positions_ok (assets_of c.args.self.now.scenarios c.args.sheet.now) c.args.positions.now) (margins_ok c.args.account) (every column_ok (new (offset_of c.args.account))) Sheet Positions Margin Column
-          (sym c.sheet_ok.ensures ∙ c.if-not-sheet_ok.false) (sym c.positions_ok.ensures ∙ c.if-not-positions_ok.false) (sym c.margins_ok.ensures ∙ c.if-not-margins_ok.false) (sym fits ∙ c.if-not-raise.false);
-      after = record { closing = refl; scenarios = refl; columns = c.raise.ensures.is c.if-not-raise.false ∙ ap new c.offset.ensures };
+      counts = c.args.self.now.counts;
+      small = limited c.raised-columns.result (sym c.if-not-columns_ok.false ∙ c.columns_ok.ensures);
+      unused = λ k l. ap (λ x. get_or x k 0) is ∙ raised_past c.args.self.now.scenarios c.args.sheet.now (offset_of c.args.account) c.args.positions.now c.args.self.now.columns k l ∙ c.args.self.now.unused k l;
     }
+
+pub returns-clause-refusal : goal.returns-clause-refusal
+returns-clause-refusal c =
+    let s = c.in_ok-sheet.ensures in
+    let h = c.in_ok-holding.ensures in
+    let o = c.in_ok-offset.ensures in
+    let is = c.raised-columns.ensures ∙ (λ i. raised ((ap (λ t. t.scenarios) h.1 ∙ s.2) i) ((ap (λ t. t.changes.now) h.1 ∙ s.1) i) (o.1 i) (h.2 i) c.args.self.now.columns) in
+    columns_decide c.args.self.now.scenarios c.args.self.now.columns c.args.sheet.now c.args.account c.args.positions.now true s.0 (ap (λ n. positions_ok n c.args.positions.now) (sym s.3) ∙ h.0) o.0 (sym c.if-not-columns_ok.false ∙ c.columns_ok.ensures ∙ ap (list_all column_ok) is)

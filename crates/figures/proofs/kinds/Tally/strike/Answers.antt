@@ -3,8 +3,5 @@ use Rattle.terms.specs.Limits.{column_limit}
 use Rattle.figures.proofs.Sizes.{largest_small}
 use Rattle.figures.proofs.kinds.Tally.strike.Goals as goal
 
-pub overflow_add-result : goal.overflow_add-result
-overflow_add-result c = omega (arith, largest_small c.args.self.columns column_limit 0 (omega arith) c.args.self.small)
-
 pub invariant_of-result : goal.invariant_of-result
 invariant_of-result c = record { small = omega (arith, largest_small c.args.self.columns column_limit 0 (omega arith) c.args.self.small, c.largest-most.ensures) }

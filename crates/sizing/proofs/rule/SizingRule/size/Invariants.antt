@@ -5,5 +5,5 @@ use Rattle.sizing.specs.Meant.{means_of}
 use Rattle.sizing.specs.Sizes.{counted}
 use Rattle.sizing.proofs.rule.SizingRule.size.Given as goal
 
-abbrev pub invariant-loop-i : goal.invariant-loop-i
-invariant-loop-i g l = (l.sum ≡ sum_to l.i (counted (g.Self.SizingRule.marking l.self (means_of l.means)) (means_of l.means))) × (l.sum ≤ l.i * figure_limit)
+abbrev pub invariant-loop-place : goal.invariant-loop-place
+invariant-loop-place g l = (l.sum ≡ sum_to l.place (counted (g.Self.SizingRule.marking l.self (means_of l.means)) (means_of l.means))) × (l.sum ≤ l.place * figure_limit)
