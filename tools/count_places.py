@@ -82,7 +82,7 @@ for group in consts.values():
 # 3. loops by index
 each(3, 'a for over numbers that index', r'for \w+ in [^{;]*\.\.[^{;]*\{')
 each(3, 'a while or loop that counts', r'(?:while [^{]*[<>][^{]*\{|\bloop \{)')
-each(3, 'a loop that stops at the first that fails', r'for &?\w+ in \w+ \{\s*if ![^{]*\{\s*return false;')
+each(3, 'a loop that stops at the first that fails', r'for &?\w+ in (?![^{]*\.\.)[^{]+\{\s*(?:let \w+ = [^;]*;\s*)?if [^{]*\{\s*return false;')
 each(3, 'a division rounded up, a subtraction stopped, a range tested by hand', r'\(\w+ \+ \(\w+ - 1\)\) / \w+|if \w+ > \w+ \{ \w+ - \w+ \} else \{ 0 \}')
 
 # 4. copies, defaults, conversions, printing by hand
@@ -95,7 +95,7 @@ each(4, 'digits by hand', r'/ 10;|% 10\)')
 facts = collections.defaultdict(list)
 pairs = collections.defaultdict(list)
 for n, s in bare.items():
-    for m in re.finditer(r'\n( *)(?:pub(?:\(crate\))? )?fn (\w+)(?:<[^(]*>)?\((.*?)\)(?: -> [^\n]*)?\n(.*?)\n\1\{', s, re.S):
+    for m in re.finditer(r'\n( *)(?:pub(?:\(crate\))? )?fn (\w+)(?:<(?:->|[^<>]|<[^<>]*>)*>)?\((.*?)\)(?: -> [^\n]*)?\n(.*?)\n\1\{', s, re.S):
         name, parameters, clauses = m.group(2), m.group(3), m.group(4)
         for f in set(re.findall(r'IsSegment \w+|IsMember \w+|length seats\.\w+ ≡ all_seats|length \w+(?:\.\w+)+ < length \w+\.now|size ≤ fund_limit|AreMinimums|Tested|\w+ ≤ margin_limit|at \+ scenarios ≤ length', ' '.join(re.findall(r'(?:requires|ensures)[^\n]*', clauses)))):
             f = re.sub(r'segment|figure\.segment', 's', re.sub(r'\.(?:now|old)', '', f))
@@ -118,7 +118,7 @@ for pair, group in sorted(pairs.items(), key=lambda p: -len(p[1])):
 # 6. buffers with a length beside, parallel arrays
 each(6, 'an array with a length beside', r'(?:\w+): \[\w+; \w+\],\n\s*(?:pub\(crate\) )?(?:count|len): usize')
 each(6, 'bytes and a place in them', r'out: &mut \[\w+\],?\s*at: usize|digits, first\)')
-each(6, 'parallel arrays', r'let mut (?:list|minimums|asks) = \[0; ALL_MEMBERS\]|means: &mut \[u64\], minimums: &mut \[u64\]|means: &Means, minimums: &\[u64\]')
+each(6, 'parallel arrays', r'let mut (?:list|minimums|asks) = \[0; ALL_MEMBERS\]|means: &mut \[u64\], minimums: &mut \[u64\]|means: &Means, minimums: &\[u64\]|means: ArrayVec<[^>]*>,\s*(?:pub\(crate\) )?minimums: ArrayVec|means: Means<[^>]*>,\s*minimums: &')
 
 # 7. switches on steps
 each(7, 'a switch on which step to run', r'Key::\w+ => after_\w+\(line\)')

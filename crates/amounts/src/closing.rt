@@ -43,10 +43,11 @@ fn contraries(quantity: i64, positions: &[i64]) -> ArrayVec<u64, MOST_POSITIONS>
     sizes
 }
 
-/// Closes out a defaulter's quantity: splits it, unsigned, over the positions of the opposite sign by their sizes; the others get 0.
+/// Closes out a defaulter's quantity: splits it, unsigned, over the positions of the opposite sign by their sizes; the others get
+/// 0.
 ///
-/// Refuses, in this order: parts and positions that differ in number; more than 64 positions, or one beyond ±10,000,000; a quantity of 0 or
-/// beyond that; too few contrary contracts.
+/// Refuses, in this order: parts and positions that differ in number; more than 64 positions, or one beyond ±10,000,000; a
+/// quantity of 0 or beyond that; too few contrary contracts.
 #[tactic(auto, using(crate::proofs::Closed::whole_small, crate::proofs::Closed::not_0))]
 pub fn close_out(quantity: i64, positions: &[i64], parts: &mut [u64]) -> Result<(), Refusal>
     ensures { CloseOut quantity positions.now parts.old result parts.new }

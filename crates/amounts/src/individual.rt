@@ -9,7 +9,7 @@ use crate::given::{Given, Individual};
 use terms::limits::{AMOUNT_LIMIT, EQUITY_PARTS};
 use terms::{Class, Duty, Refusal};
 
-// One call of the library's `all`, as the columns of a tally have: a function for both would be no shorter than either.
+// One call of the library's `all`, as the columns of a tally have: a function for both would be no shorter.
 fn all_small(numbers: &[u64]) -> bool
     ensures { Decides result ((k : ℕ) → k < length numbers.now → slice_index numbers.now k ≤ amount_limit) }
 {
@@ -57,11 +57,11 @@ impl Given {
     }
 }
 
-/// The four individual amounts of a member of this class: the minimum, the use above each of the two risk limits, and the shortfall
-/// of equity. A class that owes none answers zeros.
+/// The four individual amounts of a member of this class: the minimum, the use above each of the two risk limits, and the
+/// shortfall of equity. A class that owes none answers zeros.
 ///
-/// Refuses, in this order: an unknown class; a number above 1,000,000,000; for a class that owes them, equity that is short by more
-/// than a tenth of what is required.
+/// Refuses, in this order: an unknown class; a number above 1,000,000,000; for a class that owes them, equity that is short by
+/// more than a tenth of what is required.
 // The class comes as a number, since the call has to turn down a number that is no class's.
 pub fn individual_amounts(class: u64, given: Given) -> Result<Individual, Refusal>
     ensures { IndividualAmounts class given result }

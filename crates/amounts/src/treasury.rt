@@ -1,4 +1,5 @@
-// The treasury amount. The tables come as two slices of their owner's, and member and segment as plain numbers, each to be refused by itself.
+// The treasury amount. The tables come as two slices of their owner's, and member and segment as plain numbers, each to be
+// refused by itself.
 
 ghost use Rattle.amounts.specs.Treasury.{TreasuryAmount};
 

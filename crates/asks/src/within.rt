@@ -10,7 +10,8 @@ use sizing::means::Means;
 use terms::limits::ROUNDING_STEP;
 use terms::rounding::divided_up;
 
-/// The members that share in a segment: their means, and their minimums at the same places.
+/// The members that share in a segment: their means, and their minimums at the same places. A rule is told the means alone, so
+/// the two lists come apart.
 #[derive(Clone, Copy)]
 pub struct Sharers<'a> {
     means: Means<'a>,

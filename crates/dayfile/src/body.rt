@@ -18,7 +18,7 @@ use terms::Refusal;
 use terms::limits::MOST_POSITIONS;
 
 // The account in hand, the line it stands at, and how many positions it has. They follow it, so it is added only once they
-// have ended.
+// have ended. The positions are the caller's list, which begins with them.
 #[derive(Clone, Copy)]
 pub(crate) struct Open {
     pub(crate) line: u32,

@@ -4,21 +4,19 @@ ghost use Rattle.std.specs.Prelude.{◌≡◌};
 ghost use Rattle.dayfile.specs.Reading.{account_fields, kind_of, position_fields};
 ghost use Rattle.daytext.specs.Text.{parted};
 
-use daytext::{plain, signed, split};
+use daytext::{Fields, plain, signed};
 use figures::{Account, Kind, Position};
 
 // Asset and quantity.
 pub(crate) fn position(text: &[u8]) -> Option<Position>
     ensures { result ≡ position_fields (parted 44 text.now) }
 {
-    let (asset, quantity) = split(text, b',')?;
-    if split(quantity, b',').is_some() {
-        return None;
-    }
-    Some(Position {
-        asset: plain(asset)?,
-        quantity: signed(quantity)?,
-    })
+    let mut fields = Fields::of(text);
+    let position = Position {
+        asset: plain(fields.next()?)?,
+        quantity: signed(fields.next()?)?,
+    };
+    fields.next().is_none().then_some(position)
 }
 
 #[tactic(auto, using(crate::proofs::KindTexts::kind_none))]
@@ -36,14 +34,11 @@ fn kind(text: &[u8]) -> Option<Kind>
 pub(crate) fn account(text: &[u8]) -> Option<Account>
     ensures { result ≡ account_fields (parted 44 text.now) }
 {
-    let (first, rest) = split(text, b',')?;
-    let (required, posted) = split(rest, b',')?;
-    if split(posted, b',').is_some() {
-        return None;
-    }
-    Some(Account {
-        kind: kind(first)?,
-        required: plain(required)?,
-        posted: plain(posted)?,
-    })
+    let mut fields = Fields::of(text);
+    let account = Account {
+        kind: kind(fields.next()?)?,
+        required: plain(fields.next()?)?,
+        posted: plain(fields.next()?)?,
+    };
+    fields.next().is_none().then_some(account)
 }

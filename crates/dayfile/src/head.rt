@@ -31,15 +31,15 @@ pub(crate) fn first_lines(lines: &mut Lines) -> Result<Head, Fault>
     ensures is { seen_as result lines.new ≡ lines_read (parted 10 lines.old.rest.now) }
     ensures on { IfOk result (λ _. lines.new.number ≡ 6) }
 {
-    let form = lines.number(Key::Form)?;
+    let form = lines.value(Key::Form)?;
     if form != 1 {
         return Err(Fault::Line(Refusal::Field, 1));
     }
     Ok(Head {
-        member: lines.number(Key::Member)?,
-        segment: lines.number(Key::Segment)?,
-        day: lines.number(Key::Day)?,
-        scenarios: lines.number(Key::Scenarios)?,
+        member: lines.value(Key::Member)?,
+        segment: lines.value(Key::Segment)?,
+        day: lines.value(Key::Day)?,
+        scenarios: lines.value(Key::Scenarios)?,
     })
 }
 

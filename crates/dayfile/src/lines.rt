@@ -46,7 +46,8 @@ impl<'a> Lines<'a> {
         Some(line)
     }
 
-    // What follows the key of the next line, which is to have this one.
+    // What follows the key of the next line, which is to have this one. This and the next say how far the lines have gone, as
+    // their callers do: reading tells each fault at a number of its own.
     pub(crate) fn text(&mut self, key: Key) -> Result<&'a [u8], Fault>
         ensures is { text_as result self.new ≡ next (key_text key) self.old.number (parted 10 self.old.rest.now) }
         ensures on { IfOk result (λ _. self.new.number ≡ self.old.number + 1) }
@@ -56,8 +57,8 @@ impl<'a> Lines<'a> {
         after_key(line, key).ok_or(fault)
     }
 
-    // The number of the next line, which is to have this key.
-    pub(crate) fn number(&mut self, key: Key) -> Result<u64, Fault>
+    // The number that stands in the next line, which is to have this key.
+    pub(crate) fn value(&mut self, key: Key) -> Result<u64, Fault>
         ensures is { seen_as result self.new ≡ numbered (key_text key) self.old.number (parted 10 self.old.rest.now) }
         ensures on { IfOk result (λ _. self.new.number ≡ self.old.number + 1) }
     {

@@ -23,7 +23,7 @@ fn assets(lines: &mut Lines) -> Result<usize, Fault>
     ensures within { IfOk result (λ k. (1 ≤ k) × (k ≤ most_assets)) }
     ensures on { IfOk result (λ _. lines.new.number ≡ 7) }
 {
-    let assets = lines.number(Key::Assets)?;
+    let assets = lines.value(Key::Assets)?;
     if assets < 1 || assets > MOST_ASSETS as u64 {
         return Err(Fault::Line(Refusal::Sheet, ASSETS_LINE));
     }

@@ -6,7 +6,7 @@ pub mod parts;
 pub mod write;
 
 pub use numbers::{numbers_stand, plain, signed};
-pub use parts::{past, split, upto};
+pub use parts::{Fields, past, split, upto};
 pub use write::{put, put_number};
 
 #[cfg(test)]
@@ -26,6 +26,16 @@ mod tests {
         assert_eq!(rt; signed(b"-9999999999999"), Some(-9_999_999_999_999));
         assert_eq!(rt; signed(b"-0"), None);
         assert_eq!(rt; signed(b"7"), Some(7));
+    }
+
+    #[test]
+    fn fields_between_commas(rt: HostRuntime) {
+        let mut fields = Fields::of(b"7,,8");
+        assert_eq!(rt; fields.next(), Some(&b"7"[..]));
+        assert_eq!(rt; fields.next(), Some(&b""[..]));
+        assert_eq!(rt; fields.next(), Some(&b"8"[..]));
+        assert_eq!(rt; fields.next(), None);
+        assert_eq!(rt; Fields::of(b"").count(), 1);
     }
 
     #[test]

@@ -12,6 +12,7 @@ fn digits_value(text: &[u8]) -> Option<u64>
     ensures is { result ≡ digits 0 text.now }
     ensures short { Small result }
 {
+    // A loop: a closure of `try_fold` would have to be safe for any number that it is handed.
     let mut n = 0;
     for &b in text {
         if !b.is_ascii_digit() {

@@ -1,5 +1,5 @@
-// Text written over bytes that the caller has. Bytes and a place come apart, and no vector of either kind stands for them: the caller's
-// bytes may be any, the text may stand anywhere in them, and nothing is allocated.
+// Text written over bytes that the caller has. Bytes and a place come apart, and no vector stands for them: the bytes may be any,
+// the text may stand anywhere in them, and nothing is allocated.
 
 ghost use Rattle.std.specs.Prelude.{◌≡◌};
 ghost use Rattle.daytext.specs.Text.{behind, decimal, laid};

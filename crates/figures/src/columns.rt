@@ -16,7 +16,7 @@ fn excess(gain: i64, offset: Offset) -> u64
     ensures bounded { result ≤ gain_limit }
 {
     let over = -gain - offset.pesos as i64;
-    if over > 0 { over as u64 } else { 0 }
+    over.max(0) as u64
 }
 
 impl Position {
@@ -69,7 +69,7 @@ impl Holding<'_> {
     }
 }
 
-// One call of the library's `all`, as the numbers of individual amounts have: a function for both would be no shorter than either.
+// One call of the library's `all`, as individual amounts have: a function for both would be no shorter.
 pub(crate) fn columns_ok(columns: &[u64]) -> bool
     ensures { result ≡ list_all column_ok columns.now }
 {

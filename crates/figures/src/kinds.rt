@@ -40,7 +40,7 @@ pub(crate) struct Closing {
 #[derive(Drop)]
 pub struct Heading {
     pub(crate) closing: Closing,
-    // A plain count, here and in the tally: as an `UpTo` it would need `MOST_SCENARIOS` a second time, as a `u64`.
+    // A plain count, here and in the tally: as an `UpTo` it would be turned into a `usize` wherever it counts changes or columns.
     pub(crate) scenarios: usize,
     ghost counts: { (1 ≤ scenarios) × (scenarios ≤ most_scenarios) },
 }

@@ -9,6 +9,7 @@ use terms::limits::MOST_SCENARIOS;
 use terms::{Day, Member, Refusal, Segment};
 
 impl Heading {
+    // A heading is told plain numbers: each has a refusal.
     /// Checks a heading's numbers. Refuses, in this order, a member, a segment, a day and a scenario count out of range.
     pub fn check(member: u64, segment: u64, day: u64, scenarios: u64) -> Result<Heading, Refusal>
         ensures refusal { refusal_of result ≡ first_refusal (heading_tests member segment day scenarios) }

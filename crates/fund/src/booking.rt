@@ -12,7 +12,7 @@ use tables::{Pledges, Seat, Tables, place_of};
 use terms::limits::MOST_DAYS;
 use terms::{Member, Refusal, Segment};
 
-// Books a figure by its numbers alone, so that any form of figure is booked alike.
+// Books a figure by its numbers alone, so that any form of figure is booked alike; its seat is written in the owner's slice.
 fn booked(
     seats: &mut [Seat],
     pledges: &[Pledges],

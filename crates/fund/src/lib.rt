@@ -1,5 +1,6 @@
 // The calls on the fund book. Each is judged by the tables and its inputs; a refused call changes nothing.
-// The tables come to each call as two slices of their owner's, and member and segment as plain numbers, each to be refused by itself.
+// The tables come to each call as two slices of their owner's, and member and segment as plain numbers, each to be refused by
+// itself.
 #![tactic(auto)]
 
 pub mod booking;

@@ -1,4 +1,6 @@
-// The calls that write one seat: admission, payment, withdrawal, departure.
+// The calls that write one seat: admission, payment, withdrawal, departure. Each begins with its first refusals one after the
+// other, as its list of wants has them; a function for them would answer the view, both numbers and the seat, to be taken apart
+// at once.
 
 ghost use Rattle.fund.specs.Calls.{Admit, Depart, Pay, Withdraw};
 
@@ -30,6 +32,7 @@ pub fn admit(
     if tables.seat(member, segment).is_taken() {
         return Err(Refusal::SeatTaken);
     }
+    // The class itself is not needed: the seat keeps the number, and both tests have one refusal.
     if Class::try_from(class).is_err() || !tables.is_alike(member, class) {
         return Err(Refusal::WrongClass);
     }

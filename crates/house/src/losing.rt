@@ -26,7 +26,7 @@ fn stake(seat: &Seat, defaults: bool) -> u64
 
 // What each member bears the defaulter's loss with.
 fn stakes_against(tables: &Tables, segment: Segment, defaulter: Member) -> [u64; ALL_MEMBERS]
-    ensures { (m : ℕ) → IsMember m → amount_in result m ≡ stake_of (holders_in tables.now.seats.now segment.number) defaulter.number m }
+    ensures { (m : ℕ) → IsMember m → amount_in result m ≡ stake_of (holders_in tables.now.seats.all.now segment.number) defaulter.number m }
 {
     let mut stakes = [0; ALL_MEMBERS];
     for member in Member::all() {
@@ -36,7 +36,8 @@ fn stakes_against(tables: &Tables, segment: Segment, defaulter: Member) -> [u64;
     stakes
 }
 
-// Takes every charge from the seat of its member.
+// Takes every charge from the seat of its member, in the owner's slice. By member: of what an iterator lends to be written,
+// nothing is known afterwards.
 fn charge_all(seats: &mut [Seat], segment: Segment, charges: &[u64])
     requires long { (length seats.old ≡ all_seats) × (length charges.now ≡ all_members) }
     requires enough { (m : ℕ) → IsMember m → amount_in charges.now m ≤ (seat_at seats.old m segment.number).held }
@@ -48,8 +49,8 @@ fn charge_all(seats: &mut [Seat], segment: Segment, charges: &[u64])
     }
 }
 
-/// Charges a loss of a member's in a segment: the member's held amount first, the rest over the others that share, in proportion to
-/// what they hold. The caller's 64 amounts then hold every charge by member.
+/// Charges a loss of a member's in a segment: the member's held amount first, the rest over the others that share, in proportion
+/// to what they hold. The caller's 64 amounts then hold every charge by member.
 ///
 /// Refuses, in this order: tables that are no book; a member or a segment out of range; charges that are not 64; no such seat; an
 /// exempt class; an amount of 0 or above 2,000,000,000; more than the segment holds. Held falls by the charges, asked stays.

@@ -10,7 +10,8 @@ use tables::{Pledges, Seat, Tables};
 use terms::limits::AMOUNT_LIMIT;
 use terms::{Amount, Member, Refusal};
 
-// Changes one of a member's pledges: `change` is told the pledge and the amount, and answers what the pledge becomes, or refuses.
+// Member, kind and amount are what the two calls are told. Changes one of a member's pledges: `change` is told the pledge and the
+// amount, and answers what the pledge becomes, or refuses.
 fn change_pledge<F: FnOnce(u64, u64) -> Result<u64, Refusal>>(
     seats: &[Seat],
     pledges: &mut [Pledges],

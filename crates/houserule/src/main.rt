@@ -70,9 +70,7 @@ mod tests {
     fn sixty_four_members_with_means_of_0(rt: HostRuntime) {
         let mut seats = [Seat::default(); ALL_SEATS];
         let mut rows = [Row::default(); ALL_MEMBERS];
-        if let Some(first) = Segment::numbered(1) {
-            seat_everyone(&mut seats, first);
-        }
+        seat_everyone(&mut seats, Segment::numbered(1).unwrap());
         let answer = strike(
             &mut seats,
             &[Pledges::default(); ALL_PLEDGES],

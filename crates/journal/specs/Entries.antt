@@ -1,6 +1,5 @@
 -- The entry that a line of a journal makes.
-use Rattle.std.specs.Borrow.{Bor}
-use Rattle.std.specs.Prelude.{◌≡◌, ℕ, zero, suc, List, [], ◌∷◌, Some, None, Option, codes, option_and_then, option_map, slice_index_or}
+use Rattle.std.specs.Prelude.{ℕ, zero, suc, List, [], ◌∷◌, Some, None, Option, codes, option_and_then, option_map, slice_index_or}
 use Rattle.std.specs.Option.{option_or}
 use Rattle.daytext.specs.Text.{after, fields_of, plain_of}
 use Rattle.journal.specs.declared.entries.Entry.{Entry}
@@ -20,15 +19,6 @@ numbers_of zero [] = Some []
 numbers_of zero (f ∷ fs) = None
 numbers_of (suc n) [] = None
 numbers_of (suc n) (f ∷ fs) = with_number (plain_of f) (numbers_of n fs)
-
--- the fields of a text that is left, if one is
-abbrev pub fields_left : Option (Bor (List ℕ)) → List (List ℕ)
-fields_left None = []
-fields_left (Some t) = fields_of t.now
-
--- the first field of a text, and what is left after its comma
-abbrev pub FirstFieldIs : List ℕ → Bor (List ℕ) × Option (Bor (List ℕ)) → Type 0
-FirstFieldIs text p = fields_of text ≡ p.0.now ∷ fields_left p.1
 
 -- ENTRIES
 

@@ -1,10 +1,10 @@
 // The lines of a journal that make a call.
 
 ghost use Rattle.daytext.specs.Text.{fields_of};
-ghost use Rattle.journal.specs.Entries.{FirstFieldIs, line_entry, numbers_of};
+ghost use Rattle.journal.specs.Entries.{line_entry, numbers_of};
 ghost use Rattle.std.specs.Prelude.{◌≡◌};
 
-use daytext::{plain, split};
+use daytext::{Fields, plain};
 
 /// A line that makes a call, read whole. Its numbers are judged by the call alone.
 #[derive(Clone, Copy, PartialEq, Eq, Debug)]
@@ -32,27 +32,19 @@ pub enum Entry {
     },
 }
 
-// The first field, and what follows its comma if it has one.
-fn first_field(text: &[u8]) -> (&[u8], Option<&[u8]>)
-    ensures { FirstFieldIs text.now result }
-{
-    split(text, b',').map_or((text, None), |(field, rest)| (field, Some(rest)))
-}
-
 // Exactly `N` numbers, with a comma between each two.
 fn numbers<const N: usize>(text: &[u8]) -> Option<[u64; N]>
     ensures { result ≡ numbers_of N (fields_of text.now) }
 {
+    let mut fields = Fields::of(text);
     let mut numbers = [0; N];
-    let mut rest = Some(text);
     for number in &mut numbers {
-        let (field, others) = first_field(rest?);
-        *number = plain(field)?;
-        rest = others;
+        *number = plain(fields.next()?)?;
     }
-    rest.is_none().then_some(numbers)
+    fields.next().is_none().then_some(numbers)
 }
 
+// Paying and withdrawing are two calls of the book that are told the same numbers; each has its arm.
 /// The entry that a line makes, without its byte 10; `None` where it makes none.
 pub fn entry_of(line: &[u8]) -> Option<Entry>
     ensures { result ≡ line_entry line.now }

@@ -34,7 +34,7 @@ impl<'a> Means<'a> {
         self.list.len()
     }
 
-    /// The mean at a place; 0 past the list.
+    /// The mean at a place; 0 past the list. A plain number with its limit beside: a rule counts with it.
     pub fn at(&self, place: usize) -> u64
         ensures is { result ≡ slice_index self.now.list.now place }
         ensures within { result ≤ figure_limit }

@@ -23,12 +23,14 @@ impl StruckSegment<'_> {
     // Tells each member its ask and its mark, which are given by place.
     fn tell<R: SizingRule>(&self, rule: &R, means: &Means, fund: &Fund, rows: &mut [Row])
         requires { length rows.old ≡ all_members }
-        ensures { (m : ℕ) → IsMember m → row_at rows.new m ≡ (if (members_in self.now.tables.seats.now self.now.segment.number).shares m then (record { ask = ask_at fund.now.quotas.size fund.now.sharers.minimums.now (means_list fund.now.sharers.means) (place_of (members_in self.now.tables.seats.now self.now.segment.number) m); marked = R.SizingRule.marking rule.now (means_list means.now) (place_of (members_in self.now.tables.seats.now self.now.segment.number) m) }) else unasked) }
+        ensures { (m : ℕ) → IsMember m → row_at rows.new m ≡ (if (members_in self.now.tables.seats.all.now self.now.segment.number).shares m then (record { ask = ask_at fund.now.quotas.size fund.now.sharers.minimums.now (means_list fund.now.sharers.means) (place_of (members_in self.now.tables.seats.all.now self.now.segment.number) m); marked = R.SizingRule.marking rule.now (means_list means.now) (place_of (members_in self.now.tables.seats.all.now self.now.segment.number) m) }) else unasked) }
     {
+        // Counted by hand: only members that share have a place. Rows are written by member: of what an iterator lends to be
+        // written, nothing is known afterwards.
         let mut place = 0;
         for member in Member::all() {
             let mut row = Row::default();
-            if self.seat(member).shares() {
+            if self.tables.seat(member, self.segment).shares() {
                 row = Row {
                     ask: fund.ask(place),
                     marked: rule.marked(means, place),
@@ -53,7 +55,7 @@ fn settle(seat: Seat, ask: u64) -> Seat
     }
 }
 
-// Settles every seat of the segment by what its member's row asks.
+// Settles every seat of the segment by what its member's row asks, in the owner's slice.
 fn settle_all(seats: &mut [Seat], segment: Segment, rows: &[Row])
     requires { (length seats.old ≡ all_seats) × (length rows.now ≡ all_members) }
     ensures { seats.new ≡ settled_by seats.old segment.number rows.now }

@@ -82,15 +82,11 @@ impl<'a> Seats<'a> {
     fn has_one_class(&self, member: Member) -> bool
         ensures { Decides result (OneClass self.now.all.now member.number) }
     {
-        for segment in Segment::all() {
-            let seat = self.seat(member, segment);
-            if seat.is_taken() && !self.is_alike(member, seat.class) {
-                return false;
-            }
-        }
-        true
+        self.each_taken(member, |seat| self.is_alike(member, seat.class))
     }
 
+    // This and the next by a loop: `all` over members or segments leaves what it answers unproved, since their iterator is our
+    // own.
     fn all_one_class(&self) -> bool
         ensures { Decides result ((m : ℕ) → IsMember m → OneClass self.now.all.now m) }
     {

@@ -1,5 +1,5 @@
-// The records of the two tables. Their owner brings both as slices to every call, which reads and changes them in place; so calls take the two, and
-// a member and a segment as numbers, and make a view of them (`Tables`) only inside.
+// The records of the two tables. Their owner brings both as slices to every call, which reads and changes them in place; so calls
+// take the two, and a member and a segment as numbers, and make a view of them (`Tables`) only inside.
 
 ghost use Rattle.std.specs.Prelude.{◌≡◌, ◌≤◌, Decides};
 ghost use Rattle.tables.specs.Book.{shares};

@@ -1,7 +1,7 @@
 // The table of seats, in number as a book has them, whatever stands in them.
 
-ghost use Rattle.std.specs.Prelude.{◌≡◌, ◌+◌, ◌<◌, ◌≤◌, length, Decides, MatchOption, ◌≢◌};
-ghost use Rattle.tables.specs.Book.{Alike, held_in, place, seat_at};
+ghost use Rattle.std.specs.Prelude.{◌≡◌, ◌+◌, ◌<◌, ◌≤◌, ℕ, true, false, length, Decides, MatchBool, MatchOption, ◌≢◌};
+ghost use Rattle.tables.specs.Book.{Alike, IsSegment, held_in, place, seat_at};
 ghost use Rattle.terms.specs.Limits.{all_seats, held_limit};
 
 use crate::records::Seat;
@@ -42,17 +42,25 @@ impl<'a> Seats<'a> {
         self.all[place_of(member, segment)]
     }
 
-    /// Whether each seat that the member has is of this class.
-    pub fn is_alike(&self, member: Member, class: u64) -> bool
-        ensures { Decides result (Alike self.now.all.now member.number class) }
+    // Whether each seat that the member has passes the test. By a loop: `all` over segments leaves what it answers unproved.
+    pub(crate) fn each_taken<F: Fn(Seat) -> bool>(&self, member: Member, test: F) -> bool
+        requires { F.IsAlwaysCallable test }
+        ensures { MatchBool result ((s : ℕ) → IsSegment s → 1 ≤ (seat_at self.now.all.now member.number s).class → F.post test (seat_at self.now.all.now member.number s) true) ((s : ℕ) × (IsSegment s) × (1 ≤ (seat_at self.now.all.now member.number s).class) × (F.post test (seat_at self.now.all.now member.number s) false)) }
     {
         for segment in Segment::all() {
             let seat = self.seat(member, segment);
-            if seat.is_taken() && seat.class != class {
+            if seat.is_taken() && !test(seat) {
                 return false;
             }
         }
         true
+    }
+
+    /// Whether each seat that the member has is of this class.
+    pub fn is_alike(&self, member: Member, class: u64) -> bool
+        ensures { Decides result (Alike self.now.all.now member.number class) }
+    {
+        self.each_taken(member, |seat| seat.class == class)
     }
 
     /// Whether the segment can hold so much more. Each seat is held against what is left of the ceiling before it is added,

@@ -54,10 +54,7 @@ impl Class {
     pub fn number_owes(number: u64, duty: Duty) -> bool
         ensures { result ≡ owes number duty }
     {
-        match Class::try_from(number) {
-            Ok(class) => class.owes(duty),
-            Err(_) => false,
-        }
+        Class::try_from(number).is_ok_and(|class| class.owes(duty))
     }
 
     /// Whether a member of this class owes the duty.

@@ -27,7 +27,8 @@ pub type Amount = UpTo<AMOUNT_LIMIT>;
 
 impl<const LAST: u64> UpTo<LAST> {
     /// The number as one of these; `None` where it is 0 or past the last.
-    // No `TryFrom`: each call has a refusal of its own for such a number, and one error for all would be mapped to it every time.
+    // No `TryFrom`: one for every `LAST` has one error, where a member, a segment, a day and an amount have a refusal each, and
+    // four of them would be twins.
     pub fn numbered(number: u64) -> Option<Self>
         ensures { MatchOption result (within 1 LAST number ≡ false) (λ n. n.number ≡ number) }
     {

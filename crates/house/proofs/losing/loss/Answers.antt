@@ -12,7 +12,7 @@ bearable c =
     let t = c.args.seats.now in
     let s = c.in_ok-segment.segment.number in
     let d = c.in_ok-member.member.number in
-    let book : (c.in_ok-tables.tables.seats.now ≡ t) × Book t c.args.pledges.now = search rules in
+    let book : (c.in_ok-tables.tables.seats.all.now ≡ t) × Book t c.args.pledges.now = search rules in
     record {
       book = book.1;
       member = c.in_ok-member.member.known;
@@ -24,8 +24,8 @@ bearable c =
 
 seat : (c : In_ok-seat) → (c.in_ok-seat.seat ≡ seat_at c.args.seats.now c.in_ok-member.member.number c.in_ok-segment.segment.number) × (1 ≤ c.in_ok-seat.seat.class)
 seat c =
-    let book : (c.in_ok-tables.tables.seats.now ≡ c.args.seats.now) × Book c.args.seats.now c.args.pledges.now = search rules in
-    let here : c.in_ok-seat.seat ≡ seat_at c.in_ok-tables.tables.seats.now c.in_ok-member.member.number c.in_ok-segment.segment.number = search rules in
+    let book : (c.in_ok-tables.tables.seats.all.now ≡ c.args.seats.now) × Book c.args.seats.now c.args.pledges.now = search rules in
+    let here : c.in_ok-seat.seat ≡ seat_at c.in_ok-tables.tables.seats.all.now c.in_ok-member.member.number c.in_ok-segment.segment.number = search rules in
     let taken : 1 ≤ c.in_ok-seat.seat.class = search rules in
     (here ∙ ap (λ t. seat_at t c.in_ok-member.member.number c.in_ok-segment.segment.number) book.0, taken)
 

@@ -8,7 +8,7 @@ use Rattle.house.proofs.losing.stakes_against.Goals as goal
 
 pub loop-member-preserved : goal.loop-member-preserved
 loop-member-preserved c =
-    let x = holders_in c.args.tables.now.seats.now c.args.segment.number in
+    let x = holders_in c.args.tables.now.seats.all.now c.args.segment.number in
     let d = c.args.defaulter.number in
     let n = c.loop-member.member-iterator.passed in
     let steps = c.in-Some.ensures.steps in

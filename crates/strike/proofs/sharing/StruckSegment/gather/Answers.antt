@@ -10,7 +10,7 @@ use Rattle.strike.proofs.sharing.StruckSegment.gather.Goals as goal
 
 pub loop-member-init : goal.loop-member-init
 loop-member-init c =
-    let x = members_in c.args.self.now.tables.seats.now c.args.self.now.segment.number in
+    let x = members_in c.args.self.now.tables.seats.all.now c.args.self.now.segment.number in
     let n = c.into_iter-member-iterator.result.passed in
     let e : n ≡ 0 = (cc) in (
       c.new-means.ensures ∙ column_none x.shares x.mean n e,
@@ -21,19 +21,19 @@ loop-member-init c =
 
 pub push-requires : goal.push-requires
 push-requires c =
-    let x = members_in c.args.self.now.tables.seats.now c.args.self.now.segment.number in
+    let x = members_in c.args.self.now.tables.seats.all.now c.args.self.now.segment.number in
     let few = column_few x.shares x.mean c.loop-member.member-iterator.passed c.loop-member.means.items c.loop-member.invariant.0 in
     (omega arith, omega (arith, few, c.in-Some.ensures.steps.0))
 
 pub push-requires-then-shares : goal.push-requires-then-shares
 push-requires-then-shares c =
-    let x = members_in c.args.self.now.tables.seats.now c.args.self.now.segment.number in
+    let x = members_in c.args.self.now.tables.seats.all.now c.args.self.now.segment.number in
     let few = column_few x.shares x.minimum c.loop-member.member-iterator.passed c.loop-member.minimums.items c.loop-member.invariant.1 in
     (omega arith, omega (arith, few, c.in-Some.ensures.steps.0))
 
 pub loop-member-preserved-then-shares : goal.loop-member-preserved-then-shares
 loop-member-preserved-then-shares c =
-    let x = members_in c.args.self.now.tables.seats.now c.args.self.now.segment.number in
+    let x = members_in c.args.self.now.tables.seats.all.now c.args.self.now.segment.number in
     let k = c.loop-member.member-iterator.passed in
     let m = c.in-Some.member.number in
     let n = c.next.new.self.passed in
@@ -52,7 +52,7 @@ loop-member-preserved-then-shares c =
 
 pub loop-member-preserved : goal.loop-member-preserved
 loop-member-preserved c =
-    let x = members_in c.args.self.now.tables.seats.now c.args.self.now.segment.number in
+    let x = members_in c.args.self.now.tables.seats.all.now c.args.self.now.segment.number in
     let k = c.loop-member.member-iterator.passed in
     let m = c.in-Some.member.number in
     let n = c.next.new.self.passed in

@@ -6,7 +6,7 @@ use Rattle.strike.proofs.sharing.StruckSegment.gather.Given as goal
 
 abbrev pub invariant-loop-member : goal.invariant-loop-member
 invariant-loop-member l =
-    let x = members_in l.self.tables.seats.now l.self.segment.number in
+    let x = members_in l.self.tables.seats.all.now l.self.segment.number in
     let n = l.member-iterator.passed in
     (l.means.items ≡ map x.mean (sharers_to n x.shares))
     × (l.minimums.items ≡ map x.minimum (sharers_to n x.shares))

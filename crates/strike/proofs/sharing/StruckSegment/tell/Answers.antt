@@ -13,18 +13,18 @@ use Rattle.strike.proofs.sharing.StruckSegment.tell.Goals.{then-shares, else-sha
 
 pub loop-member-init : goal.loop-member-init
 loop-member-init g c =
-    let x = members_in c.args.self.now.tables.seats.now c.args.self.now.segment.number in
+    let x = members_in c.args.self.now.tables.seats.all.now c.args.self.now.segment.number in
     let e : c.into_iter-member-iterator.result.passed ≡ 0 = (cc) in
     (sym (ap (count x.shares) e ∙ count_none x.shares), λ j low le. absurd (omega arith))
 
 pub overflow_add-place : goal.overflow_add-place
 overflow_add-place g c =
-    let x = members_in c.args.self.now.tables.seats.now c.args.self.now.segment.number in
+    let x = members_in c.args.self.now.tables.seats.all.now c.args.self.now.segment.number in
     omega (arith, c.loop-member.invariant.0, count_few x.shares c.loop-member.member-iterator.passed, c.in-Some.ensures.steps.0)
 
 pub loop-member-preserved : goal.loop-member-preserved
 loop-member-preserved g c =
-    let x = members_in c.args.self.now.tables.seats.now c.args.self.now.segment.number in
+    let x = members_in c.args.self.now.tables.seats.all.now c.args.self.now.segment.number in
     let k = c.loop-member.member-iterator.passed in
     let m = c.in-Some.member.number in
     let steps = c.in-Some.ensures.steps in

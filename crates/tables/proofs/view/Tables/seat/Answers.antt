@@ -6,7 +6,7 @@ use Rattle.tables.proofs.view.Tables.seat.Goals as goal
 
 pub returns-clause-held : goal.returns-clause-held
 returns-clause-held c =
-    let t = c.args.self.now.seats.now in
+    let t = c.args.self.now.seats.all.now in
     let m = c.args.member in
     let s = c.args.segment in
     let part = seat_within t s.number m.number m.known in
