@@ -7,6 +7,7 @@ use tables::{Pledges, Seat, Tables};
 use terms::limits::TREASURY_FLOOR;
 use terms::{Duty, Member, Refusal, Segment};
 
+// The first refusals stand one after the other, as the list of wants has them.
 /// The treasury amount of a member's seat in a segment: the larger of its mean and 700,000.
 ///
 /// Refuses, in this order: tables that are no book; a member or a segment out of range; no such seat; a class that owes none.

@@ -24,7 +24,7 @@ fn stake(seat: &Seat, defaults: bool) -> u64
     }
 }
 
-// What each member bears the defaulter's loss with.
+// What each member bears the defaulter's loss with. By member: of what an iterator lends to be written, nothing is known afterwards.
 fn stakes_against(tables: &Tables, segment: Segment, defaulter: Member) -> [u64; ALL_MEMBERS]
     ensures { (m : ℕ) → IsMember m → amount_in result m ≡ stake_of (holders_in tables.now.seats.all.now segment.number) defaulter.number m }
 {
@@ -36,8 +36,7 @@ fn stakes_against(tables: &Tables, segment: Segment, defaulter: Member) -> [u64;
     stakes
 }
 
-// Takes every charge from the seat of its member, in the owner's slice. By member: of what an iterator lends to be written,
-// nothing is known afterwards.
+// Takes every charge from the seat of its member, in the owner's slice, by member for the same reason.
 fn charge_all(seats: &mut [Seat], segment: Segment, charges: &[u64])
     requires long { (length seats.old ≡ all_seats) × (length charges.now ≡ all_members) }
     requires enough { (m : ℕ) → IsMember m → amount_in charges.now m ≤ (seat_at seats.old m segment.number).held }

@@ -55,7 +55,8 @@ fn settle(seat: Seat, ask: u64) -> Seat
     }
 }
 
-// Settles every seat of the segment by what its member's row asks, in the owner's slice.
+// Settles every seat of the segment by what its member's row asks, in the owner's slice. By member: of what an iterator lends to be
+// written, nothing is known afterwards.
 fn settle_all(seats: &mut [Seat], segment: Segment, rows: &[Row])
     requires { (length seats.old ≡ all_seats) × (length rows.now ≡ all_members) }
     ensures { seats.new ≡ settled_by seats.old segment.number rows.now }
