@@ -63,34 +63,27 @@ impl<'a> Seats<'a> {
         self.each_taken(member, |seat| seat.class == class)
     }
 
-    /// Whether the segment can hold so much more. Each seat is held against what is left of the ceiling before it is added,
-    /// since a table may hold any number.
-    pub fn has_room(&self, segment: Segment, more: u64) -> bool
-        ensures { Decides result (held_in self.now.all.now segment.number + more ≤ held_limit) }
-    {
-        if more > HELD_LIMIT {
-            return false;
-        }
-        let mut sum = more;
-        for member in Member::all() {
-            let held = self.seat(member, segment).held;
-            if held > HELD_LIMIT - sum {
-                return false;
-            }
-            sum += held;
-        }
-        true
-    }
-
-    /// What the segment holds.
-    pub fn held_in(&self, segment: Segment) -> u64
-        requires { held_in self.now.all.now segment.number ≤ held_limit }
-        ensures { result ≡ held_in self.now.all.now segment.number }
+    /// What the segment holds, where that is within its ceiling. Each seat is held against what is left of the ceiling before it is
+    /// added, since a table may hold any number.
+    pub fn held_in(&self, segment: Segment) -> Option<u64>
+        ensures { MatchOption result (held_limit < held_in self.now.all.now segment.number) (λ held. (held ≡ held_in self.now.all.now segment.number) × (held ≤ held_limit)) }
     {
         let mut sum = 0;
         for member in Member::all() {
-            sum += self.seat(member, segment).held;
+            let held = self.seat(member, segment).held;
+            if held > HELD_LIMIT - sum {
+                return None;
+            }
+            sum += held;
         }
-        sum
+        Some(sum)
+    }
+
+    /// Whether the segment can hold so much more.
+    pub fn has_room(&self, segment: Segment, more: u64) -> bool
+        ensures { Decides result (held_in self.now.all.now segment.number + more ≤ held_limit) }
+    {
+        self.held_in(segment)
+            .is_some_and(|held| more <= HELD_LIMIT - held)
     }
 }

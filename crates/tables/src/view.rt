@@ -79,10 +79,10 @@ impl<'a> Tables<'a> {
         self.seats.has_room(segment, more)
     }
 
-    /// What the segment holds.
+    /// What the segment holds. Of a book it is always within the ceiling.
     pub fn held_in(&self, segment: Segment) -> u64
         ensures { result ≡ held_in self.now.seats.all.now segment.number }
     {
-        self.seats.held_in(segment)
+        self.seats.held_in(segment).unwrap()
     }
 }

@@ -1,4 +1,4 @@
-use Rattle.std.proofs.Common.{◌≡◌, ℕ, ◌≤◌, true}
+use Rattle.std.proofs.Common.{ℕ, ◌≤◌, true}
 use Rattle.tables.specs.Book.{seat_at}
 use Rattle.tables.proofs.seats.Seats.each_taken.Given as goal
 
