@@ -14,15 +14,15 @@ use terms::rounding::divided_up;
 /// the two lists come apart.
 #[derive(Clone, Copy)]
 pub struct Sharers<'a> {
-    means: Means<'a>,
+    means: &'a Means,
     minimums: &'a [u64],
-    ghost alike: { AreMinimums minimums.now (length (means_of means)) },
+    ghost alike: { AreMinimums minimums.now (length (means_of means.now)) },
 }
 
 impl<'a> Sharers<'a> {
     /// Members with these means and these minimums.
-    pub fn of(means: Means<'a>, minimums: &'a [u64]) -> Self
-        requires { AreMinimums minimums.now (length (means_of means)) }
+    pub fn of(means: &'a Means, minimums: &'a [u64]) -> Self
+        requires { AreMinimums minimums.now (length (means_of means.now)) }
         ensures means { result.means ≡ means.entry }
         ensures minimums { result.minimums ≡ minimums.entry }
     {
@@ -30,10 +30,10 @@ impl<'a> Sharers<'a> {
     }
 
     /// A fund of this size, for which they are asked.
-    #[tactic(auto, using(crate::proofs::Sums::sum_is, crate::proofs::Sums::sum_fits))]
+    #[tactic(auto, using(crate::proofs::Sums::sum_is, crate::proofs::Sums::sum_fits, sizing::specs::Picks::are_means))]
     pub fn fund(&self, size: u64) -> Fund<'a>
         requires small { size ≤ fund_limit }
-        requires covered { size ≤ sum_of (means_of self.now.means) }
+        requires covered { size ≤ sum_of (means_of self.now.means.now) }
         ensures sharers { result.sharers ≡ self.now }
         ensures size { result.quotas.size ≡ size }
     {
@@ -50,10 +50,10 @@ impl<'a> Sharers<'a> {
     }
 
     // What the quotas of those that are not excluded have above their minimums, together.
-    #[tactic(auto, using(terms::proofs::Adding::sum_to_none, terms::proofs::Adding::sum_to_more, crate::proofs::OneMember::above_is))]
+    #[tactic(auto, using(terms::proofs::Adding::sum_to_none, terms::proofs::Adding::sum_to_more, crate::proofs::OneMember::above_is, sizing::specs::Picks::are_means))]
     fn above(&self, quotas: &Quotas) -> u64
-        requires { quotas.now.total ≡ sum_of (means_of self.now.means) }
-        ensures { result ≡ above_sum quotas.now.size self.now.minimums.now (means_of self.now.means) }
+        requires { quotas.now.total ≡ sum_of (means_of self.now.means.now) }
+        ensures { result ≡ above_sum quotas.now.size self.now.minimums.now (means_of self.now.means.now) }
     {
         let mut sum = 0;
         for (mean, minimum) in self.means.as_slice().iter().zip(self.minimums) {
@@ -92,15 +92,15 @@ pub struct Fund<'a> {
     least: u64,
     // What the quotas have above the minimums, together.
     above: u64,
-    ghost total_is: { quotas.total ≡ sum_of (means_of sharers.means) },
+    ghost total_is: { quotas.total ≡ sum_of (means_of sharers.means.now) },
     ghost least_is: { least ≡ sum_of sharers.minimums.now },
-    ghost above_is: { above ≡ above_sum quotas.size sharers.minimums.now (means_of sharers.means) },
+    ghost above_is: { above ≡ above_sum quotas.size sharers.minimums.now (means_of sharers.means.now) },
 }
 
 impl<'a> Fund<'a> {
     /// What is asked of the member at a place; past the list, of a mean and a minimum of 0.
     pub fn ask(&self, place: usize) -> u64
-        ensures { result ≡ ask_at self.now.quotas.size self.now.sharers.minimums.now (means_of self.now.sharers.means) place }
+        ensures { result ≡ ask_at self.now.quotas.size self.now.sharers.minimums.now (means_of self.now.sharers.means.now) place }
     {
         let quota = self.quotas.of(self.sharers.means.at(place));
         let minimum = self.sharers.minimums.get(place).copied().unwrap_or(0);

@@ -47,8 +47,10 @@ impl SizingRule for CoverTwo {
     ghost lawful = { λ rule. lawful_two };
 
     fn marked(&self, means: &Means, place: usize) -> bool {
+        if place >= means.count() {
+            return false;
+        }
         let first = largest(means, means.count(), 0);
-        let second = largest(means, first, usize::from(first == 0));
-        place < means.count() && (place == first || place == second)
+        place == first || place == largest(means, first, usize::from(first == 0))
     }
 }

@@ -23,7 +23,7 @@ impl StruckSegment<'_> {
     // Tells each member its ask and its mark, which are given by place.
     fn tell<R: SizingRule>(&self, rule: &R, means: &Means, fund: &Fund, rows: &mut [Row])
         requires { length rows.old ≡ all_members }
-        ensures { (m : ℕ) → IsMember m → row_at rows.new m ≡ (if (members_in self.now.tables.seats.all.now self.now.segment.number).shares m then (record { ask = ask_at fund.now.quotas.size fund.now.sharers.minimums.now (means_list fund.now.sharers.means) (place_of (members_in self.now.tables.seats.all.now self.now.segment.number) m); marked = R.SizingRule.marking rule.now (means_list means.now) (place_of (members_in self.now.tables.seats.all.now self.now.segment.number) m) }) else unasked) }
+        ensures { (m : ℕ) → IsMember m → row_at rows.new m ≡ (if (members_in self.now.tables.seats.all.now self.now.segment.number).shares m then (record { ask = ask_at fund.now.quotas.size fund.now.sharers.minimums.now (means_list fund.now.sharers.means.now) (place_of (members_in self.now.tables.seats.all.now self.now.segment.number) m); marked = R.SizingRule.marking rule.now (means_list means.now) (place_of (members_in self.now.tables.seats.all.now self.now.segment.number) m) }) else unasked) }
     {
         // Counted by hand: only members that share have a place. Rows are written by member: of what an iterator lends to be
         // written, nothing is known afterwards.
@@ -94,7 +94,7 @@ pub fn strike<R: SizingRule>(
     }
     let struck = StruckSegment { tables, segment };
     let Gathered { means, minimums } = struck.gather();
-    let means = Means::of(means.as_slice()).ok_or(Refusal::NoneShares)?;
+    let means = Means::listed(means.as_slice()).ok_or(Refusal::NoneShares)?;
     if !struck.all_paid() {
         return Err(Refusal::Short);
     }
@@ -105,7 +105,7 @@ pub fn strike<R: SizingRule>(
     if size > FUND_LIMIT {
         return Err(Refusal::FundSize);
     }
-    let fund = Sharers::of(means, minimums.as_slice()).fund(size);
+    let fund = Sharers::of(&means, minimums.as_slice()).fund(size);
     struck.tell(rule, &means, &fund, rows);
     settle_all(seats, segment, rows);
     Ok(size)

@@ -4,8 +4,9 @@ use Rattle.terms.specs.declared.refusals.Refusal.{Refusal}
 use Rattle.terms.specs.declared.refusals.Refusal.TheVariants as refusals
 use Rattle.asks.specs.Steps.{ask_at}
 use Rattle.sizing.specs.Lists.{AreMeans, sum_of}
-use Rattle.sizing.specs.declared.means.Means.{Means}
 use Rattle.sizing.specs.Marks.{size_of}
+use Rattle.sizing.specs.Meant.{means_of as means_list}
+use Rattle.sizing.specs.Picks.{are_means}
 use Rattle.sizing.specs.Sizes.{size_at_most_sum}
 use Rattle.tables.specs.Book.{Book, IsMember, IsSegment}
 use Rattle.strike.specs.Members.{means_of, minimums_of}
@@ -53,8 +54,8 @@ returns-then-not-all_paid-clause-is g c =
     let means = carried (λ u k. list ≡ means_of (members_in u k)) T t S.number s eT eS c.gather-means.ensures.means in
     let long = c.if-rows-ne-ALL_MEMBERS.false in
     let M = c.in_ok-means.means in
-    let eM : M.list.now ≡ list = search rules in
-    let are : AreMeans list = subst AreMeans eM M.known in
+    let eM : means_list M ≡ list = search rules in
+    let are : AreMeans list = subst AreMeans eM (are_means M) in
     let no' : EachSharing t s Paid → ⊥ = carried (λ u k. EachSharing u k Paid → ⊥) T t S.number s eT eS (λ h. true≢false (sym (c.if-not-all_paid.ensures.1 h))) in
     one_is_short t p s marking rows book seg long list means are no'
 
@@ -75,8 +76,8 @@ returns-then-not-all_figured-clause-is g c =
     let means = carried (λ u k. list ≡ means_of (members_in u k)) T t S.number s eT eS c.gather-means.ensures.means in
     let long = c.if-rows-ne-ALL_MEMBERS.false in
     let M = c.in_ok-means.means in
-    let eM : M.list.now ≡ list = search rules in
-    let are : AreMeans list = subst AreMeans eM M.known in
+    let eM : means_list M ≡ list = search rules in
+    let are : AreMeans list = subst AreMeans eM (are_means M) in
     let paid : EachSharing t s Paid = carried (λ u k. EachSharing u k Paid) T t S.number s eT eS (c.if-not-all_paid.ensures.0 refl) in
     let no' : EachSharing t s Figured → ⊥ = carried (λ u k. EachSharing u k Figured → ⊥) T t S.number s eT eS (λ h. true≢false (sym (c.if-not-all_figured.ensures.1 h))) in
     one_has_none t p s marking rows book seg long list means are paid no'
@@ -98,8 +99,8 @@ returns-then-size-gt-FUND_LIMIT-clause-is g c =
     let means = carried (λ u k. list ≡ means_of (members_in u k)) T t S.number s eT eS c.gather-means.ensures.means in
     let long = c.if-rows-ne-ALL_MEMBERS.false in
     let M = c.in_ok-means.means in
-    let eM : M.list.now ≡ list = search rules in
-    let are : AreMeans list = subst AreMeans eM M.known in
+    let eM : means_list M ≡ list = search rules in
+    let are : AreMeans list = subst AreMeans eM (are_means M) in
     let paid : EachSharing t s Paid = carried (λ u k. EachSharing u k Paid) T t S.number s eT eS (c.if-not-all_paid.ensures.0 refl) in
     let figured : EachSharing t s Figured = carried (λ u k. EachSharing u k Figured) T t S.number s eT eS (c.if-not-all_figured.ensures.0 refl) in
     let size = c.size-size.result in
@@ -108,8 +109,8 @@ returns-then-size-gt-FUND_LIMIT-clause-is g c =
 
 pub fund-fund-requires-clause-covered : goal.fund-fund-requires-clause-covered
 fund-fund-requires-clause-covered g c =
-    let ms = c.in_ok-means.means.list.now in
-    let same : c.of-2.result.means.list.now ≡ ms = ap (λ (m : Means). m.list.now) c.of-2.ensures.means in
+    let ms = means_list c.in_ok-means.means in
+    let same : means_list c.of.result.means.now ≡ ms = search rules in
     omega (arith, c.size-size.ensures, size_at_most_sum (g.R.SizingRule.marking c.args.rule.now ms) ms, ap sum_of same)
 
 pub returns : goal.returns
@@ -129,8 +130,8 @@ returns g c =
     let means = carried (λ u k. list ≡ means_of (members_in u k)) T t S.number s eT eS c.gather-means.ensures.means in
     let long = c.if-rows-ne-ALL_MEMBERS.false in
     let M = c.in_ok-means.means in
-    let eM : M.list.now ≡ list = search rules in
-    let are : AreMeans list = subst AreMeans eM M.known in
+    let eM : means_list M ≡ list = search rules in
+    let are : AreMeans list = subst AreMeans eM (are_means M) in
     let paid : EachSharing t s Paid = carried (λ u k. EachSharing u k Paid) T t S.number s eT eS (c.if-not-all_paid.ensures.0 refl) in
     let figured : EachSharing t s Figured = carried (λ u k. EachSharing u k Figured) T t S.number s eT eS (c.if-not-all_figured.ensures.0 refl) in
     let size = c.size-size.result in
@@ -141,13 +142,13 @@ returns g c =
     let minimums = carried (λ u k. mins ≡ minimums_of (members_in u k)) T t S.number s eT eS c.gather-means.ensures.minimums in
     let eF : F.quotas.size ≡ size = search rules in
     let eL : F.sharers.minimums.now ≡ mins = search rules in
-    let eS' : F.sharers.means.list.now ≡ list = search rules in
+    let eS' : means_list F.sharers.means.now ≡ list = search rules in
     let x = members_in t s in
     let by : (m : ℕ) → IsMember m → row_at new m ≡ row_by x (ask_at size mins list) (marking list) m = λ m im.
-    carried (λ u k. row_at new m ≡ row_by (members_in u k) (ask_at F.quotas.size F.sharers.minimums.now F.sharers.means.list.now) (marking M.list.now) m) T t S.number s eT eS (c.tell.ensures m im)
-    ∙ ap (λ (a : ℕ). row_by x (ask_at a F.sharers.minimums.now F.sharers.means.list.now) (marking M.list.now) m) eF
-    ∙ ap (λ (l : List ℕ). row_by x (ask_at size l F.sharers.means.list.now) (marking M.list.now) m) eL
-    ∙ ap (λ (l : List ℕ). row_by x (ask_at size mins l) (marking M.list.now) m) eS'
+    carried (λ u k. row_at new m ≡ row_by (members_in u k) (ask_at F.quotas.size F.sharers.minimums.now (means_list F.sharers.means.now)) (marking (means_list M)) m) T t S.number s eT eS (c.tell.ensures m im)
+    ∙ ap (λ (a : ℕ). row_by x (ask_at a F.sharers.minimums.now (means_list F.sharers.means.now)) (marking (means_list M)) m) eF
+    ∙ ap (λ (l : List ℕ). row_by x (ask_at size l (means_list F.sharers.means.now)) (marking (means_list M)) m) eL
+    ∙ ap (λ (l : List ℕ). row_by x (ask_at size mins l) (marking (means_list M)) m) eS'
     ∙ ap (λ (l : List ℕ). row_by x (ask_at size mins list) (marking l) m) eM in
     let done : Told x marking size new = told x marking size list mins new means minimums sz (omega arith) by in
     let settled : c.settle_all.new.seats ≡ settled_by t s new = c.settle_all.ensures ∙ ap (λ (k : ℕ). settled_by t k new) eS in

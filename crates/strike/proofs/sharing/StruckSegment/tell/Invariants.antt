@@ -11,4 +11,4 @@ abbrev pub invariant-loop-member : goal.invariant-loop-member
 invariant-loop-member g l =
     let x = members_in l.self.tables.seats.all.now l.self.segment.number in
     (l.place ≡ length (sharers_to l.member-iterator.passed x.shares))
-    × ((j : ℕ) → 1 ≤ j → j ≤ l.member-iterator.passed → row_at l.rows j ≡ row_by x (ask_at l.fund.quotas.size l.fund.sharers.minimums.now (means_of l.fund.sharers.means)) (g.R.SizingRule.marking l.rule (means_of l.means)) j)
+    × ((j : ℕ) → 1 ≤ j → j ≤ l.member-iterator.passed → row_at l.rows j ≡ row_by x (ask_at l.fund.quotas.size l.fund.sharers.minimums.now (means_of l.fund.sharers.means.now)) (g.R.SizingRule.marking l.rule (means_of l.means)) j)
