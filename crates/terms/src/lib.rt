@@ -3,6 +3,7 @@
 
 pub mod classes;
 pub mod limits;
+pub mod lists;
 pub mod numbers;
 pub mod refusals;
 pub mod rounding;
