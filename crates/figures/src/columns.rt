@@ -1,12 +1,12 @@
 // What an account adds to the columns of a tally.
 
-ghost use Rattle.std.specs.Prelude.{◌≡◌, ◌<◌, ◌≤◌, true, ◌*ℤ◌, neg_ℤ, unsigned_abs};
+ghost use Rattle.std.specs.Prelude.{◌≡◌, ◌<◌, ◌≤◌, true, false, ◌*ℤ◌, neg_ℤ, unsigned_abs, MatchResult};
 ghost use Rattle.std.specs.List.{list_all};
 ghost use Rattle.figures.specs.Accounts.{Limited, change_ok, column_ok, excess_at, excess_of, gain_limit, gain_in, product_limit, quantity_ok, raised};
 
 use crate::checks::{Holding, Offset};
 use crate::kinds::Position;
-use std::array;
+use terms::Refusal;
 use terms::limits::{COLUMN_LIMIT, MOST_SCENARIOS};
 
 // The loss, which is minus the gain, less the offset, if that is positive.
@@ -56,22 +56,23 @@ impl Holding<'_> {
         }
     }
 
-    // The columns, each raised by the excess there.
-    pub(crate) fn raised(
+    // Raises each scenario's column by the excess there. Refuses a column that would pass its limit. By a loop over the scenarios, and
+    // no array that a closure makes: that goes over all 64 columns for each account, however few scenarios there are.
+    pub(crate) fn raise(
         &self,
-        columns: [u64; MOST_SCENARIOS],
+        columns: &mut [u64; MOST_SCENARIOS],
         offset: Offset,
-    ) -> [u64; MOST_SCENARIOS]
-        requires { Limited columns }
-        ensures { result ≡ raised self.now.sheet.scenarios self.now.sheet.changes.now offset.pesos self.now.positions.now columns }
+    ) -> Result<(), Refusal>
+        requires { Limited columns.old }
+        ensures { MatchResult result (λ _. (list_all column_ok columns.new ≡ true) × (columns.new ≡ raised self.now.sheet.scenarios self.now.sheet.changes.now offset.pesos self.now.positions.now columns.old)) (λ e. (list_all column_ok (raised self.now.sheet.scenarios self.now.sheet.changes.now offset.pesos self.now.positions.now columns.old) ≡ false) × (e ≡ Refusal.Column)) }
     {
-        array::from_fn(|j| columns[j] + self.excess(j, offset))
+        for j in 0..self.sheet.scenarios {
+            let column = columns[j] + self.excess(j, offset);
+            if column > COLUMN_LIMIT {
+                return Err(Refusal::Column);
+            }
+            columns[j] = column;
+        }
+        Ok(())
     }
-}
-
-// One call of the library's `all`, as individual amounts have: a function for both would be no shorter.
-pub(crate) fn columns_ok(columns: &[u64]) -> bool
-    ensures { result ≡ list_all column_ok columns.now }
-{
-    columns.iter().all(|column| *column <= COLUMN_LIMIT)
 }

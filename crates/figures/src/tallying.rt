@@ -6,7 +6,6 @@ ghost use Rattle.terms.specs.Refusing.{first_refusal, refusal_of};
 ghost use Rattle.std.specs.Prelude.{◌≡◌};
 
 use crate::checks::Sheet;
-use crate::columns::columns_ok;
 use crate::kinds::{Account, Closing, Figure, Numbers, Position, Tally};
 use terms::limits::MIL;
 use terms::{Member, Refusal, Segment};
@@ -29,10 +28,8 @@ impl Tally {
         let sheet = Sheet::read(self.scenarios, sheet)?;
         let holding = sheet.holding(positions)?;
         let offset = account.offset()?;
-        let columns = holding.raised(self.columns, offset);
-        if !columns_ok(&columns) {
-            return Err(Refusal::Column);
-        }
+        let mut columns = self.columns;
+        holding.raise(&mut columns, offset)?;
         self.columns = columns;
         Ok(())
     }

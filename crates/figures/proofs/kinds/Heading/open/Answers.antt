@@ -9,7 +9,7 @@ zero_at (suc n) (suc k) = zero_at n k
 
 pub invariant_of-result : goal.invariant_of-result
 invariant_of-result c = record {
-  counts = c.args.self.counts;
+  counts = (omega (arith, c.args.self.counts.0), omega (arith, c.args.self.counts.1));
   small = λ k. omega (arith, zero_at most_scenarios k);
   unused = λ k h. zero_at most_scenarios k;
 }
