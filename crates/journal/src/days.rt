@@ -52,5 +52,10 @@ pub fn lines_in(bytes: &[u8]) -> usize
     ensures is { result ≡ count_by (λ b. b == 10) bytes.now }
     ensures within { result ≤ length bytes.now }
 {
-    bytes.iter().filter(|b| **b == b'\n').count()
+    // By a loop: the library's `filter` and `count` take half as long again over a day file.
+    let mut ended = 0;
+    for &b in bytes {
+        ended += usize::from(b == b'\n');
+    }
+    ended
 }
