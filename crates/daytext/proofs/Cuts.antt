@@ -1,5 +1,5 @@
 -- Slices and the parts of a text. Assumes nothing.
-use Rattle.std.proofs.Common.{◌≡◌, ◌≢◌, ℕ, suc, ◌+◌, ◌-◌, ◌<◌, Bool, cond, not, eqb, List, [], ◌∷◌, ◌++◌, length, get_or, take, drop, Some, None, Option, sym, refl, ap, ◌∙◌, ⊎_elim, arith, length-drop}
+use Rattle.std.proofs.Common.{◌≡◌, ◌≢◌, ℕ, suc, ◌+◌, ◌-◌, ◌<◌, Bool, true, false, cond, not, eqb, List, [], ◌∷◌, ◌++◌, length, get_or, take, drop, Some, None, Option, sym, refl, ap, ◌∙◌, ⊎_elim, arith, length-drop}
 use native.Mathlib.Nat.{sub-zero}
 use Rattle.std.specs.Borrow.{Bor}
 use Rattle.std.specs.List.{position, prefix_len}
@@ -8,6 +8,9 @@ use Rattle.std.proofs.lemmas.Grind.{common_steps}
 use Rattle.std.proofs.lemmas.List.Sums.{prefix_len-le-length}
 use Rattle.std.proofs.lemmas.List.{take_rest}
 use Rattle.std.proofs.lemmas.Bool.{cases_Bool}
+use Rattle.std.proofs.lemmas.Bool.Decides.{Decides-eqb}
+use Rattle.std.proofs.lemmas.Slice.Eq.{strip_prefix_is}
+use Rattle.std.specs.Cmp.Lexicographic.{pointwise}
 use Rattle.daytext.specs.Text.{FirstAt, Parts, more, parted, after, seen, unlike}
 use Rattle.daytext.proofs.Texts.{after_back, after_made, cut}
 
@@ -76,7 +79,18 @@ some_at sep bs n e = grind (arith, common_steps)
 pub upto_at : (sep : ℕ) (bs : List ℕ) (n : ℕ) → n ≡ unwrap_or (position (λ b. eqb b sep) bs) (length bs) → prefix_len (unlike sep) bs ≡ n
 upto_at sep bs n e = grind (arith, common_steps, prefix_len-le-length (unlike sep) bs)
 
+-- the same of what a search for the separator answered
+pub upto_found : (sep : ℕ) (bs : List ℕ) (n : ℕ) (found : Option ℕ) → found ≡ position (λ b. eqb b sep) bs → n ≡ unwrap_or found (length bs) → prefix_len (unlike sep) bs ≡ n
+upto_found sep bs n found f e = upto_at sep bs n (e ∙ ap (λ o. unwrap_or o (length bs)) f)
+
+pub first_found : (sep : ℕ) (bs : List ℕ) (n : ℕ) (found : Option ℕ) → found ≡ position (λ b. eqb b sep) bs → n ≡ unwrap_or found (length bs) → FirstAt sep bs n
+first_found sep bs n found f e = first_at sep bs n (upto_found sep bs n found f e)
+
 -- what stands behind a key, or that the line does not begin with it
 pub past_key : (key line : List ℕ) (r : Option (Bor (List ℕ))) → MatchOption r ((t : List ℕ) → line ≢ key ++ t) (λ x. line ≡ key ++ x.now) → seen r ≡ after key line
 past_key key line None h = sym (after_none key line h)
 past_key key line (Some x) h = sym (ap (after key) h ∙ after_made key x.now)
+
+-- the same of what taking the key from the front answered
+pub past_front : (key line : List ℕ) (r : Option (Bor (List ℕ))) → MatchOption r (pointwise eqb (take (length key) line) key ≡ false) (λ x. (pointwise eqb (take (length key) line) key ≡ true) × (x.now ≡ drop (length key) line) × (length x.now + length key ≡ length line)) → seen r ≡ after key line
+past_front key line r h = past_key key line r (strip_prefix_is Decides-eqb line key r h)

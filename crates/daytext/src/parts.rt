@@ -14,6 +14,7 @@ fn first(text: &[u8], sep: u8) -> Option<usize>
 }
 
 /// How many bytes come before the first `sep`, or all of them.
+#[tactic(auto, using(crate::proofs::Cuts::upto_found, crate::proofs::Cuts::first_found))]
 pub fn upto(text: &[u8], sep: u8) -> usize
     ensures is { prefix_len (unlike sep) text.now ≡ result }
     ensures within { result ≤ length text.now }
@@ -63,6 +64,7 @@ impl<'a> Iterator for Fields<'a> {
 }
 
 /// What follows the key, where the line begins with it.
+#[tactic(auto, using(crate::proofs::Cuts::past_front))]
 pub fn past<'a>(line: &'a [u8], key: &[u8]) -> Option<&'a [u8]>
     ensures { seen result ≡ after key.now line.now }
 {

@@ -22,6 +22,7 @@ pub fn put(out: &mut [u8], at: usize, text: &[u8]) -> usize
 
 /// Writes the digits of `n` over `out` from the place `at` on, and answers the place behind them. Where not all of them
 /// fit, nothing is written, and the answer is `at`.
+#[tactic(auto, using(crate::proofs::Numerals::std_decimal))]
 pub fn put_number(out: &mut [u8], at: usize, n: u64) -> usize
     ensures bytes { out.new ≡ laid out.old at (decimal n) }
     ensures place { result ≡ behind out.old at (decimal n) }
