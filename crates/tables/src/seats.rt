@@ -83,7 +83,9 @@ impl<'a> Seats<'a> {
     pub fn has_room(&self, segment: Segment, more: u64) -> bool
         ensures { Decides result (held_in self.now.all.now segment.number + more ≤ held_limit) }
     {
-        self.held_in(segment)
-            .is_some_and(|held| more <= HELD_LIMIT - held)
+        more <= HELD_LIMIT
+            && self
+                .held_in(segment)
+                .is_some_and(|held| more <= HELD_LIMIT - held)
     }
 }
