@@ -1,4 +1,4 @@
-use Rattle.std.proofs.Common.{◌+◌, get_or, refl, arith}
+use Rattle.std.proofs.Common.{refl, arith}
 use Rattle.figures.proofs.Raising.{raised_all, raised_more, raised_stop}
 use Rattle.figures.proofs.Refusing.{small_pass}
 use Rattle.figures.proofs.checks.Holding.raise.Goals as goal
@@ -11,7 +11,7 @@ returns-then-column-gt-COLUMN_LIMIT c =
 pub loop-j-preserved : goal.loop-j-preserved
 loop-j-preserved c =
     let h = c.args.self.now in
-    raised_more h.sheet.scenarios h.sheet.changes.now c.args.offset.pesos h.positions.now c.args.columns.now c.loop-j.j c.loop-j.columns (get_or c.loop-j.columns c.loop-j.j 0 + c.excess.result) (omega arith) (omega (arith, c.excess.ensures.is, c.loop-j.invariant.1 c.loop-j.j (omega arith))) (omega arith) c.loop-j.invariant
+    raised_more h.sheet.scenarios h.sheet.changes.now c.args.offset.pesos h.positions.now c.args.columns.now c.loop-j.j c.loop-j.columns _ (omega arith) (omega (arith, c.excess.ensures.is, c.loop-j.invariant.1 c.loop-j.j (omega arith))) (omega arith) c.loop-j.invariant
 
 pub returns : goal.returns
 returns c =
