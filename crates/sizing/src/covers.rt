@@ -15,7 +15,7 @@ fn largest(means: &Means, skip: usize, start: usize) -> usize
     let mut best = start;
     let mut most = means.at(start);
     for (place, &mean) in means.as_slice().iter().enumerate() {
-        if place != skip && most < mean {
+        if most < mean && place != skip {
             best = place;
             most = mean;
         }
