@@ -9,7 +9,6 @@ use crate::given::{Given, Individual};
 use terms::limits::{AMOUNT_LIMIT, EQUITY_PARTS};
 use terms::{Class, Duty, Refusal};
 
-// One call of the library's `all`, as the columns of a tally have: a function for both would be no shorter.
 fn all_small(numbers: &[u64]) -> bool
     ensures { Decides result ((k : ℕ) → k < length numbers.now → slice_index numbers.now k ≤ amount_limit) }
 {
