@@ -1,4 +1,4 @@
-// Helpers for the strike. They ask for what a book has, and are no part of the interface.
+// Helpers for the strike, and the same for means of one's own. They ask for what a book has, and are no part of the interface.
 
 ghost use Rattle.std.specs.Prelude.{◌≡◌, ◌+◌, ◌*◌, ◌<◌, ◌^◌, ◌≤◌, length, sum};
 ghost use Rattle.asks.specs.Steps.{AreMinimums, above_sum, ask_at, contribution_of, quota_of};
@@ -14,24 +14,96 @@ use terms::rounding::divided_up;
 /// the two lists come apart.
 #[derive(Clone, Copy)]
 pub struct Sharers<'a> {
-    means: &'a Means,
+    means: Means,
     minimums: &'a [u64],
-    ghost alike: { AreMinimums minimums.now (length (means_of means.now)) },
+    ghost alike: { AreMinimums minimums.now (length (means_of means)) },
 }
 
 impl<'a> Sharers<'a> {
     /// Members with these means and these minimums.
-    pub fn of(means: &'a Means, minimums: &'a [u64]) -> Self
-        requires { AreMinimums minimums.now (length (means_of means.now)) }
-        ensures means { result.means ≡ means.entry }
+    pub fn of(means: Means, minimums: &'a [u64]) -> Self
+        requires { AreMinimums minimums.now (length (means_of means)) }
+        ensures means { result.means ≡ means }
         ensures minimums { result.minimums ≡ minimums.entry }
     {
         Sharers { means, minimums }
     }
 
     /// A fund of this size, for which they are asked.
-    #[tactic(auto, using(crate::proofs::Sums::sum_is, crate::proofs::Sums::sum_fits, sizing::specs::Picks::are_means))]
     pub fn fund(&self, size: u64) -> Fund<'a>
+        requires small { size ≤ fund_limit }
+        requires covered { size ≤ sum_of (means_of self.now.means) }
+        ensures sharers { result.sharers ≡ self.now }
+        ensures size { result.quotas.size ≡ size }
+    {
+        let fund = self.lent().fund(size);
+        Fund {
+            sharers: *self,
+            quotas: fund.quotas,
+            least: fund.least,
+            above: fund.above,
+        }
+    }
+
+    // The same members, their means lent.
+    fn lent(&self) -> LentSharers<'_>
+        ensures means { result.means.now ≡ self.now.means }
+        ensures minimums { result.minimums.now ≡ self.now.minimums.now }
+    {
+        LentSharers::of(&self.means, self.minimums)
+    }
+}
+
+/// A fund of some size, for which its sharers are asked.
+#[derive(Clone, Copy)]
+pub struct Fund<'a> {
+    sharers: Sharers<'a>,
+    quotas: Quotas,
+    // The minimums together.
+    least: u64,
+    // What the quotas have above the minimums, together.
+    above: u64,
+    ghost total_is: { quotas.total ≡ sum_of (means_of sharers.means) },
+    ghost least_is: { least ≡ sum_of sharers.minimums.now },
+    ghost above_is: { above ≡ above_sum quotas.size sharers.minimums.now (means_of sharers.means) },
+}
+
+impl<'a> Fund<'a> {
+    /// What is asked of the member at a place; past the list, of a mean and a minimum of 0.
+    pub fn ask(&self, place: usize) -> u64
+        ensures { result ≡ ask_at self.now.quotas.size self.now.sharers.minimums.now (means_of self.now.sharers.means) place }
+    {
+        let fund = LentFund {
+            sharers: self.sharers.lent(),
+            quotas: self.quotas,
+            least: self.least,
+            above: self.above,
+        };
+        fund.ask(place)
+    }
+}
+
+/// `Sharers` whose means are lent and not copied: a `Means` takes more than 500 bytes.
+#[derive(Clone, Copy)]
+pub struct LentSharers<'a> {
+    means: &'a Means,
+    minimums: &'a [u64],
+    ghost alike: { AreMinimums minimums.now (length (means_of means.now)) },
+}
+
+impl<'a> LentSharers<'a> {
+    /// Members with these means and these minimums.
+    pub fn of(means: &'a Means, minimums: &'a [u64]) -> Self
+        requires { AreMinimums minimums.now (length (means_of means.now)) }
+        ensures means { result.means ≡ means.entry }
+        ensures minimums { result.minimums ≡ minimums.entry }
+    {
+        LentSharers { means, minimums }
+    }
+
+    /// A fund of this size, for which they are asked.
+    #[tactic(auto, using(crate::proofs::Sums::sum_is, crate::proofs::Sums::sum_fits))]
+    pub fn fund(&self, size: u64) -> LentFund<'a>
         requires small { size ≤ fund_limit }
         requires covered { size ≤ sum_of (means_of self.now.means.now) }
         ensures sharers { result.sharers ≡ self.now }
@@ -41,7 +113,7 @@ impl<'a> Sharers<'a> {
             size,
             total: total(self.means.as_slice()),
         };
-        Fund {
+        LentFund {
             sharers: *self,
             quotas,
             least: total(self.minimums),
@@ -50,7 +122,7 @@ impl<'a> Sharers<'a> {
     }
 
     // What the quotas of those that are not excluded have above their minimums, together.
-    #[tactic(auto, using(terms::proofs::Adding::sum_to_none, terms::proofs::Adding::sum_to_more, crate::proofs::OneMember::above_is, sizing::specs::Picks::are_means))]
+    #[tactic(auto, using(terms::proofs::Adding::sum_to_none, terms::proofs::Adding::sum_to_more, crate::proofs::OneMember::above_is))]
     fn above(&self, quotas: &Quotas) -> u64
         requires { quotas.now.total ≡ sum_of (means_of self.now.means.now) }
         ensures { result ≡ above_sum quotas.now.size self.now.minimums.now (means_of self.now.means.now) }
@@ -83,10 +155,10 @@ impl Quotas {
     }
 }
 
-/// A fund of some size, for which its sharers are asked.
+/// A `Fund` of sharers whose means are lent.
 #[derive(Clone, Copy)]
-pub struct Fund<'a> {
-    sharers: Sharers<'a>,
+pub struct LentFund<'a> {
+    sharers: LentSharers<'a>,
     quotas: Quotas,
     // The minimums together.
     least: u64,
@@ -97,7 +169,7 @@ pub struct Fund<'a> {
     ghost above_is: { above ≡ above_sum quotas.size sharers.minimums.now (means_of sharers.means.now) },
 }
 
-impl<'a> Fund<'a> {
+impl<'a> LentFund<'a> {
     /// What is asked of the member at a place; past the list, of a mean and a minimum of 0.
     pub fn ask(&self, place: usize) -> u64
         ensures { result ≡ ask_at self.now.quotas.size self.now.sharers.minimums.now (means_of self.now.sharers.means.now) place }

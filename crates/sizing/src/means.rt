@@ -63,9 +63,11 @@ impl Means {
         self.as_slice().get(place).copied().unwrap_or(0)
     }
 
-    /// All of them, by place.
+    /// All of them, by place, known to be a list of means: a rule goes over them.
+    #[tactic(auto, using(crate::specs::Picks::are_means))]
     pub fn as_slice(&self) -> &[u64]
-        ensures { result.now ≡ means_of self.now }
+        ensures is { result.now ≡ means_of self.now }
+        ensures known { AreMeans result.now }
     {
         &self.list[..self.count]
     }

@@ -19,7 +19,7 @@ pub trait SizingRule {
         ensures { result ≡ marking self.now (means_of means.now) place };
 
     /// The size of the fund: the sum of the marked means.
-    #[tactic(auto, using(terms::proofs::Adding::sum_to_none, terms::proofs::Adding::sum_to_more, crate::specs::Picks::are_means))]
+    #[tactic(auto, using(terms::proofs::Adding::sum_to_none, terms::proofs::Adding::sum_to_more))]
     fn size(&self, means: &Means) -> u64
         ensures { result ≡ size_of (marking self.now (means_of means.now)) (means_of means.now) }
     {

@@ -12,7 +12,7 @@ ghost use Rattle.terms.specs.Limits.{all_members, all_seats};
 
 use crate::rows::Row;
 use crate::sharing::{Gathered, StruckSegment};
-use asks::within::{Fund, Sharers};
+use asks::within::{LentFund, LentSharers};
 use sizing::SizingRule;
 use sizing::means::Means;
 use tables::{Pledges, Seat, Tables, place_of};
@@ -21,7 +21,7 @@ use terms::{Member, Refusal, Segment};
 
 impl StruckSegment<'_> {
     // Tells each member its ask and its mark, which are given by place.
-    fn tell<R: SizingRule>(&self, rule: &R, means: &Means, fund: &Fund, rows: &mut [Row])
+    fn tell<R: SizingRule>(&self, rule: &R, means: &Means, fund: &LentFund, rows: &mut [Row])
         requires { length rows.old ≡ all_members }
         ensures { (m : ℕ) → IsMember m → row_at rows.new m ≡ (if (members_in self.now.tables.seats.all.now self.now.segment.number).shares m then (record { ask = ask_at fund.now.quotas.size fund.now.sharers.minimums.now (means_list fund.now.sharers.means.now) (place_of (members_in self.now.tables.seats.all.now self.now.segment.number) m); marked = R.SizingRule.marking rule.now (means_list means.now) (place_of (members_in self.now.tables.seats.all.now self.now.segment.number) m) }) else unasked) }
     {
@@ -105,7 +105,7 @@ pub fn strike<R: SizingRule>(
     if size > FUND_LIMIT {
         return Err(Refusal::FundSize);
     }
-    let fund = Sharers::of(&means, minimums.as_slice()).fund(size);
+    let fund = LentSharers::of(&means, minimums.as_slice()).fund(size);
     struck.tell(rule, &means, &fund, rows);
     settle_all(seats, segment, rows);
     Ok(size)
